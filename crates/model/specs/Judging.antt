@@ -1,0 +1,126 @@
+-- Declared plans, and the rules that the judge holds a pass to (document 01, 'The plan file' and 'Judging and expanding').
+use Prim.Native.Nat.{ℕ, zero, suc, _<_}
+use mathlib.Core.Path.{_≡_}
+use mathlib.Core.List.{List, [], _∷_, _++_}
+use mathlib.Core.Bool.{Bool, true, false, cond, not, _&&_, _||_}
+use lib.Dec.{eqb}
+use Rattle.model.specs.Lists.{any, All}
+use Rattle.model.specs.Sides.{Side, is, Arrays, cells, array-of, within}
+use Rattle.model.specs.Effects.{Action, read, write, copy, need, mark}
+use Rattle.model.specs.Blocks.{Block}
+
+-- "16 R, 17 W, 18 RW"
+pub data Mode : Type 0 where
+  R W RW : Mode
+
+-- "R or RW"
+abbrev pub reads : Mode → Bool
+reads R = true
+reads W = false
+reads RW = true
+
+-- "W or RW"
+abbrev pub writes : Mode → Bool
+writes R = false
+writes W = true
+writes RW = true
+
+-- "16 R, 17 W, 18 RW: side and array."
+pub record Declaration : Type 0 where
+  pub mode : Mode
+  pub side : Side
+  pub array : ℕ
+
+-- "Its other bodies are passes: declarations first .. then kinds 1 to 7."
+pub record Pass : Type 0 where
+  pub declarations : List Declaration
+  pub body : Block
+
+-- "Body 0 of a declared plan has no declarations and holds kinds 6, 7, 8": calls, branches and loops, each with the rest
+pub data Body0 : Type 0 where
+  done : Body0
+  call : ℕ → Body0 → Body0
+  branch : Body0 → Body0 → Body0 → Body0
+  loop : Body0 → Body0 → Body0
+
+-- a declared plan: its arrays, body 0, and the bodies from 1 on
+pub record DeclaredPlan : Type 0 where
+  pub arrays : Arrays
+  pub body0 : Body0
+  pub passes : List Pass
+
+-- a pass of no records
+abbrev pub no-pass : Pass
+no-pass = record { declarations = []; body = Block.done }
+
+-- "8 call: P is a body, 1 to the last": the pass that body b is; one of no records where there is none, which number 8 refuses
+abbrev pub pass-of : List Pass → ℕ → Pass
+pass-of [] b = no-pass
+pass-of (p ∷ ps) zero = no-pass
+pass-of (p ∷ ps) (suc zero) = p
+pass-of (p ∷ ps) (suc (suc b)) = pass-of ps (suc b)
+
+-- "In a pass each array is declared at most once."
+abbrev pub declared-once : List Declaration → Bool
+declared-once [] = true
+declared-once (d ∷ ds) = not (any (λ (e : Declaration). eqb (e .array) (d .array)) ds) && declared-once ds
+
+-- whether the declarations have array a on side s, with such a mode
+abbrev pub declares : (Mode → Bool) → Side → ℕ → List Declaration → Bool
+declares fits s a ds = any (λ (d : Declaration). fits (d .mode) && (is (d .side) s && eqb (d .array) a)) ds
+
+-- "A read needs R or RW of its array on its side, a write W or RW. Kinds 3, 4, 5 are barred."
+abbrev pub permits : List Declaration → Action → Bool
+permits ds (read s x) = declares reads s (x .array) ds
+permits ds (write s x) = declares writes s (x .array) ds
+permits ds (copy s x) = false
+permits ds (need s a) = false
+permits ds (mark s a) = false
+
+-- whether every record of a block, those of its arms included, passes the test
+abbrev pub every : (Action → Bool) → Block → Bool
+every f Block.done = true
+every f (Block.act r x b) = f x && every f b
+every f (Block.branch r x y b) = every f x && (every f y && every f b)
+every f (Block.loop r x b) = every f x && every f b
+
+-- one way through a block, stops aside: the choices before it, those left after it, and its records in order
+pub data Way : Block → List Bool → List Bool → List Action → Type 0 where
+  done : {cs : List Bool} → Way Block.done cs cs []
+  act : {r : ℕ} {x : Action} {b : Block} {cs ds : List Bool} {w : List Action} → Way b cs ds w → Way (Block.act r x b) cs ds (x ∷ w)
+  branch : {r : ℕ} {x y b : Block} {c : Bool} {cs ds es : List Bool} {v w : List Action} →
+      Way (cond c x y) cs ds v → Way b ds es w → Way (Block.branch r x y b) (c ∷ cs) es (v ++ w)
+  leave : {r : ℕ} {x b : Block} {cs ds : List Bool} {w : List Action} → Way b cs ds w → Way (Block.loop r x b) (false ∷ cs) ds w
+  turn : {r : ℕ} {x b : Block} {cs ds es : List Bool} {v w : List Action} →
+      Way x cs ds v → Way (Block.loop r x b) ds es w → Way (Block.loop r x b) (true ∷ cs) es (v ++ w)
+
+-- whether a record writes cell c on side s
+abbrev pub writes-cell : Arrays → Side → ℕ → Action → Bool
+writes-cell arrays s c (read t x) = false
+writes-cell arrays s c (write t x) = is t s && within arrays x c
+writes-cell arrays s c (copy t x) = false
+writes-cell arrays s c (need t a) = false
+writes-cell arrays s c (mark t a) = false
+
+-- "every way through the pass, stops aside, writes every cell of the array on that side"
+abbrev pub Written : Arrays → Block → Declaration → Type 0
+Written arrays b d =
+    (c : ℕ) → c < cells arrays → array-of arrays c ≡ d .array →
+    (cs ds : List Bool) (w : List Action) → Way b cs ds w → any (writes-cell arrays (d .side) c) w ≡ true
+
+-- the same of one cell, as a test that computes
+abbrev pub always-writes : Arrays → Side → ℕ → Block → Bool
+always-writes arrays s c Block.done = false
+always-writes arrays s c (Block.act r x b) = writes-cell arrays s c x || always-writes arrays s c b
+always-writes arrays s c (Block.branch r x y b) = (always-writes arrays s c x && always-writes arrays s c y) || always-writes arrays s c b
+always-writes arrays s c (Block.loop r x b) = always-writes arrays s c b
+
+-- the rules for a pass: "declared at most once", "a read needs .. a write .. barred", "Where W is declared, every way .."
+pub record Rules (arrays : Arrays) (p : Pass) : Type 0 where
+  pub once : declared-once (p .declarations) ≡ true
+  pub permitted : every (permits (p .declarations)) (p .body) ≡ true
+  pub written : All (λ (d : Declaration). d .mode ≡ W → Written arrays (p .body) d) (p .declarations)
+
+-- "Accepted is the judge's answer, given exactly where none of its numbers holds"; "Passes that nobody calls are judged too."
+abbrev pub Accepts : DeclaredPlan → Type 0
+Accepts plan = All (Rules (plan .arrays)) (plan .passes)

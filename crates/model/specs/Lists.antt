@@ -1,0 +1,14 @@
+-- Two words on lists, for the definitions after them.
+use mathlib.Core.Bool.{Bool, false, _||_}
+use mathlib.Core.List.{List, [], _∷_}
+
+module _ {A : Type 0} where
+  -- whether one of the list passes the test
+  abbrev pub any : (A → Bool) → List A → Bool
+  any f [] = false
+  any f (x ∷ l) = f x || any f l
+
+  -- each of the list has the property
+  abbrev pub All : (A → Type 0) → List A → Type 0
+  All P [] = Unit {0}
+  All P (x ∷ l) = P x × All P l

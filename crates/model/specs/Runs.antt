@@ -1,0 +1,122 @@
+-- Runs of a plan on a list of choices (document 01, 'Sides, cells, stamps', 'Running and viewing' and 'The words of demand 3').
+use Prim.Native.Nat.{ℕ, zero, suc, _+_, _-_}
+use mathlib.Core.Path.{_≡_}
+use mathlib.Core.List.{List, [], _∷_}
+use mathlib.Core.Bool.{Bool, false, cond, not}
+use mathlib.Core.Option.{Option, none, some}
+use Rattle.model.specs.Sides.{Arrays, cells, length-of}
+use Rattle.model.specs.Effects.{Action, read, write, copy, need, mark, State, start, met, effect}
+use Rattle.model.specs.Blocks.{Block, done, act, branch, loop, _then_, Plan}
+
+-- whether a record is a need that copies
+abbrev pub copies : Action → State → Bool
+copies (read s x) σ = false
+copies (write s x) σ = false
+copies (copy s x) σ = false
+copies (need s a) σ = not (σ .flag s a)
+copies (mark s a) σ = false
+
+-- an executed record, and whether it is a need that copied
+pub record Event : Type 0 where
+  pub action : Action
+  pub copied : Bool
+
+-- where a run stands: what is left, the choices left (true: "first arm or one more turn"), the state,
+-- and the records executed so far, the last one first
+pub record Config : Type 0 where
+  pub left : Block
+  pub choices : List Bool
+  pub state : State
+  pub history : List Event
+
+-- "finished when no record is left, stopped at a stuck record (one whose need is unmet), or out of choices":
+-- the record and its lowest unmet cell, the record whose test finds no choice
+pub data Ending : Type 0 where
+  finished : Ending
+  stopped : ℕ → ℕ → Ending
+  out-of-choices : ℕ → Ending
+
+pub data Step : Type 0 where
+  next : Config → Step
+  ends : Ending → Step
+
+-- one step, stops aside: a record acts, its need met or not; "Each branch and each test of a loop takes one" choice
+abbrev pub carry : Arrays → Config → Step
+carry arrays k = go (k .left) (k .choices)
+  where
+    to : Block → List Bool → Step
+    to b cs = next (record { left = b; choices = cs; state = k .state; history = k .history })
+
+    go : Block → List Bool → Step
+    go done cs = ends finished
+    go (act r x b) cs = next (record {
+      left = b;
+      choices = cs;
+      state = effect arrays x (k .state);
+      history = record { action = x; copied = copies x (k .state) } ∷ k .history;
+    })
+    go (branch r x y b) [] = ends (out-of-choices r)
+    go (branch r x y b) (c ∷ cs) = to (cond c x y then b) cs
+    go (loop r x b) [] = ends (out-of-choices r)
+    go (loop r x b) (c ∷ cs) = to (cond c (x then loop r x b) b) cs
+
+-- the lowest of n cells, from cell c on, in which the need of a record is unmet
+abbrev pub unmet-from : Arrays → Action → State → ℕ → ℕ → Option ℕ
+unmet-from arrays x σ c zero = none
+unmet-from arrays x σ c (suc n) = cond (met arrays x σ c) (unmet-from arrays x σ (suc c) n) (some c)
+
+abbrev pub lowest-unmet : Arrays → Action → State → Option ℕ
+lowest-unmet arrays x σ = unmet-from arrays x σ 0 (cells arrays)
+
+-- a stop at record r, if it has an unmet cell
+abbrev pub stop-or : ℕ → Option ℕ → Step → Step
+stop-or r none otherwise = otherwise
+stop-or r (some c) otherwise = ends (stopped r c)
+
+-- one step of a run: "A run stops at a record whose need is unmet; that record then changes nothing."
+abbrev pub step : Arrays → Config → Step
+step arrays k = go (k .left)
+  where
+    go : Block → Step
+    go done = carry arrays k
+    go (act r x b) = stop-or r (lowest-unmet arrays x (k .state)) (carry arrays k)
+    go (branch r x y b) = carry arrays k
+    go (loop r x b) = carry arrays k
+
+-- "It begins at the start"
+abbrev pub begin : Plan → List Bool → Config
+begin plan cs = record { left = plan .body; choices = cs; state = start (plan .arrays); history = [] }
+
+-- where steps of one kind lead from a configuration
+pub data Reached (one : Config → Step) (from : Config) : Config → Type 0 where
+  here : Reached one from from
+  onward : {k k′ : Config} → Reached one from k → one k ≡ next k′ → Reached one from k′
+
+-- the run of a plan on a list of choices: the configurations that it reaches. Their states are the moments:
+-- "the start and the state after each executed record" (a test of a branch or loop leaves the state as it is)
+abbrev pub Run : Plan → List Bool → Config → Type 0
+Run plan cs k = Reached (step (plan .arrays)) (begin plan cs) k
+
+-- the run ends at configuration k, in this way
+pub record Ends (plan : Plan) (cs : List Bool) (k : Config) (e : Ending) : Type 0 where
+  pub run : Run plan cs k
+  pub last : step (plan .arrays) k ≡ ends e
+
+-- "read records, write records, cells moved, from zero"
+pub record Tally : Type 0 where
+  pub reads : ℕ
+  pub writes : ℕ
+  pub moved : ℕ
+
+-- one executed record more: "A copy moves all its cells, a need that copies the whole array."
+abbrev pub counted : Arrays → Action → Bool → Tally → Tally
+counted arrays (read s x) m t = record { reads = suc (t .reads); writes = t .writes; moved = t .moved }
+counted arrays (write s x) m t = record { reads = t .reads; writes = suc (t .writes); moved = t .moved }
+counted arrays (copy s x) m t = record { reads = t .reads; writes = t .writes; moved = t .moved + (x .q - x .p) }
+counted arrays (need s a) m t = record { reads = t .reads; writes = t .writes; moved = t .moved + cond m (length-of arrays a) 0 }
+counted arrays (mark s a) m t = t
+
+-- the tally of a history
+abbrev pub tally : Arrays → List Event → Tally
+tally arrays [] = record { reads = 0; writes = 0; moved = 0 }
+tally arrays (e ∷ l) = counted arrays (e .action) (e .copied) (tally arrays l)
