@@ -1,0 +1,92 @@
+-- Facts on tests that the kit has not.
+use Prim.Native.Nat.{ℕ}
+use mathlib.Core.Path.{_≡_, refl, sym, _∙_}
+use mathlib.Core.Logic.{_⊎_, inl, inr, _↔_}
+use mathlib.Core.Bool.{Bool, true, false, not, _&&_, _||_, false≢true, true≢false}
+use lib.Dec.{eqb}
+use borrow.Author.Tests.{eqb-true, eqb-false, eq-eqb, ne-eqb}
+use mathlib.Core.List.{List, [], _∷_, _++_}
+use Rattle.model.specs.Sides.{Side, host, card, other, is}
+use Rattle.model.specs.Lists.{any}
+
+pub or-out : (a b : Bool) → (a || b) ≡ true → (a ≡ true) ⊎ (b ≡ true)
+or-out true b e = inl refl
+or-out false b e = inr e
+
+pub or-left : (a b : Bool) → a ≡ true → (a || b) ≡ true
+or-left a b e = rw e
+
+pub or-right : (a b : Bool) → b ≡ true → (a || b) ≡ true
+or-right true b e = refl
+or-right false b e = e
+
+pub or-none : (a b : Bool) → (a || b) ≡ false → (a ≡ false) × (b ≡ false)
+or-none true b e = absurd (true≢false e)
+or-none false b e = (refl, e)
+
+pub and-out : (a b : Bool) → (a && b) ≡ true → (a ≡ true) × (b ≡ true)
+and-out true b e = (refl, e)
+and-out false b e = absurd (false≢true e)
+
+pub and-in : (a b : Bool) → a ≡ true → b ≡ true → (a && b) ≡ true
+and-in a b e f = rw (e, f)
+
+pub and-none : (a b : Bool) → (a && b) ≡ false → (a ≡ false) ⊎ (b ≡ false)
+and-none true b e = inr e
+and-none false b e = inl refl
+
+pub or-iff : {A B : Type 0} (a b : Bool) → ((a ≡ true) ↔ A) → ((b ≡ true) ↔ B) → ((a || b) ≡ true) ↔ (A ⊎ B)
+or-iff a b p q = (
+  λ e. elim (or-out a b e) [ inl f ↦ inl (p .0 f) | inr f ↦ inr (q .0 f) ],
+  elim [ inl x ↦ or-left a b (p .1 x) | inr y ↦ or-right a b (q .1 y) ],
+)
+
+pub and-iff : {A B : Type 0} (a b : Bool) → ((a ≡ true) ↔ A) → ((b ≡ true) ↔ B) → ((a && b) ≡ true) ↔ (A × B)
+and-iff a b p q = (λ e. let f = and-out a b e in (p .0 (f .0), q .0 (f .1)), λ x. and-in a b (p .1 (x .0)) (q .1 (x .1)))
+
+pub false-of : (b : Bool) → (b ≡ true → ⊥) → b ≡ false
+false-of true f = absurd (f refl)
+false-of false f = refl
+
+pub eqb-swap : (a b : ℕ) → eqb a b ≡ eqb b a
+eqb-swap a b = go (eqb b a) refl
+  where
+    go : (t : Bool) → eqb b a ≡ t → eqb a b ≡ eqb b a
+    go true e = eq-eqb a b (sym (eqb-true b a e)) ∙ sym e
+    go false e = ne-eqb a b (λ q. eqb-false b a e (sym q)) ∙ sym e
+
+-- two sides
+pub is-same : (s : Side) → is s s ≡ true
+is-same host = refl
+is-same card = refl
+
+pub is-true : (s t : Side) → is s t ≡ true → s ≡ t
+is-true host host e = refl
+is-true host card e = absurd (false≢true e)
+is-true card host e = absurd (false≢true e)
+is-true card card e = refl
+
+pub is-other : (s : Side) → is (other s) s ≡ false
+is-other host = refl
+is-other card = refl
+
+pub is-not : (s t : Side) → is s (other t) ≡ not (is s t)
+is-not host host = refl
+is-not host card = refl
+is-not card host = refl
+is-not card card = refl
+
+pub same-or-other : (s t : Side) → (t ≡ s) ⊎ (t ≡ other s)
+same-or-other host host = inl refl
+same-or-other host card = inr refl
+same-or-other card host = inr refl
+same-or-other card card = inl refl
+
+module _ {A : Type 0} (f : A → Bool) where
+  pub any-append : (l m : List A) → any f (l ++ m) ≡ (any f l || any f m)
+  any-append [] m = refl
+  any-append (x ∷ l) m = go (f x) (any-append l m)
+    where
+      go : (b : Bool) → any f (l ++ m) ≡ (any f l || any f m) → (b || any f (l ++ m)) ≡ ((b || any f l) || any f m)
+      go true e = refl
+      go false e = e

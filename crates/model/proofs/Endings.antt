@@ -1,0 +1,102 @@
+-- A run on a list of choices ends, and in one way only.
+use Prim.Native.Nat.{ℕ}
+use mathlib.Core.Path.{_≡_, refl, ap, sym, _∙_, subst}
+use mathlib.Core.Logic.{_⊎_, inl, inr}
+use mathlib.Core.List.{List, [], _∷_}
+use mathlib.Core.Bool.{Bool, cond, true≢false}
+use mathlib.Core.Option.{Option, none, some}
+use Rattle.model.specs.Effects.{Action, State, start, effect}
+use Rattle.model.specs.Blocks.{Block, done, act, branch, loop, _then_, Plan}
+use Rattle.model.specs.Runs.{Event, Config, Ending, finished, stopped, out-of-choices, Step, next, ends, stop-or, lowest-unmet, step, Reached, here, onward, Run, Ends}
+use Rattle.model.proofs.Runs.{config, event, next-same}
+
+-- it ends
+module _ (plan : Plan) (all : List Bool) where
+  pub record Ended : Type 0 where
+    pub last : Config
+    pub ending : Ending
+    pub ends : Ends plan all last ending
+
+  -- with the choices cs left, whatever else is left
+  abbrev EndsWith : List Bool → Type 0
+  EndsWith cs = (b : Block) (σ : State) (l : List Event) → Run plan all (config b cs σ l) → Ended
+
+  ended : (k : Config) (e : Ending) → Run plan all k → step (plan .arrays) k ≡ ends e → Ended
+  ended k e h q = record { last = k; ending = e; ends = record { run = h; last = q } }
+
+  end-act : (cs : List Bool) (r : ℕ) (x : Action) (b : Block) → ((σ : State) (l : List Event) → Run plan all (config b cs σ l) → Ended) →
+      (σ : State) (l : List Event) → Run plan all (config (act r x b) cs σ l) → Ended
+  end-act cs r x b more σ l h = go (lowest-unmet (plan .arrays) x σ) refl
+    where
+      after : Step
+      after = next (config b cs (effect (plan .arrays) x σ) (event x σ ∷ l))
+
+      go : (o : Option ℕ) → lowest-unmet (plan .arrays) x σ ≡ o → Ended
+      go none q = more (effect (plan .arrays) x σ) (event x σ ∷ l) (onward h (ap (λ o. stop-or r o after) q))
+      go (some c) q = ended (config (act r x b) cs σ l) (stopped r c) h (ap (λ o. stop-or r o after) q)
+
+  end-empty : EndsWith []
+  end-empty done σ l h = ended (config done [] σ l) finished h refl
+  end-empty (act r x b) σ l h = end-act [] r x b (end-empty b) σ l h
+  end-empty (branch r x y b) σ l h = ended (config (branch r x y b) [] σ l) (out-of-choices r) h refl
+  end-empty (loop r x b) σ l h = ended (config (loop r x b) [] σ l) (out-of-choices r) h refl
+
+  end-choice : (c : Bool) (cs : List Bool) → EndsWith cs → EndsWith (c ∷ cs)
+  end-choice c cs more done σ l h = ended (config done (c ∷ cs) σ l) finished h refl
+  end-choice c cs more (act r x b) σ l h = end-act (c ∷ cs) r x b (end-choice c cs more b) σ l h
+  end-choice c cs more (branch r x y b) σ l h = more (cond c x y then b) σ l (onward h refl)
+  end-choice c cs more (loop r x b) σ l h = more (cond c (x then loop r x b) b) σ l (onward h refl)
+
+  end-with : (cs : List Bool) → EndsWith cs
+  end-with [] = end-empty
+  end-with (c ∷ cs) = end-choice c cs (end-with cs)
+
+  pub run-ends : Ended
+  run-ends = end-with all (plan .body) (start (plan .arrays)) [] here
+
+-- of two configurations that steps of one kind reach, one leads to the other
+module _ (one : Config → Step) where
+  data First (a b : Config) : Type 0 where
+    none-taken : a ≡ b → First a b
+    taken : (k : Config) → one a ≡ next k → Reached one k b → First a b
+
+  first-step : {a b : Config} → Reached one a b → First a b
+  first-step here = none-taken refl
+  first-step {a} {b} (onward {k = k} h e) = go (first-step h)
+    where
+      go : First a k → First a b
+      go (none-taken q) = taken b (rw q e) here
+      go (taken m q g) = taken m q (onward g e)
+
+  compare : {a j k : Config} → Reached one a j → Reached one a k → Reached one j k ⊎ Reached one k j
+  compare g here = inr g
+  compare {a} {j} {k} g (onward {k = m} h e) = go (compare g h)
+    where
+      later : First m j → Reached one j k ⊎ Reached one k j
+      later (none-taken q) = inl (subst (λ (i : Config). Reached one i k) q (onward here e))
+      later (taken i q f) = inr (subst (λ (i : Config). Reached one i j) (next-same i k (sym q ∙ e)) f)
+
+      go : Reached one j m ⊎ Reached one m j → Reached one j k ⊎ Reached one k j
+      go (inl f) = inl (onward f e)
+      go (inr f) = later (first-step f)
+
+  -- nothing follows an end
+  at-end : {j k : Config} {e : Ending} → one j ≡ ends e → Reached one j k → j ≡ k
+  at-end {j} {k} {e} q h = go (first-step h)
+    where
+      go : First j k → j ≡ k
+      go (none-taken p) = p
+      go (taken i p f) = absurd (true≢false (cc))
+
+  pub one-end : {a j k : Config} {d e : Ending} → Reached one a j → one j ≡ ends d → Reached one a k → one k ≡ ends e → (j ≡ k) × (d ≡ e)
+  one-end {a} {j} {k} {d} {e} g p h q = (same, cc (ap one same))
+    where
+      go : Reached one j k ⊎ Reached one k j → j ≡ k
+      go (inl f) = at-end p f
+      go (inr f) = sym (at-end q f)
+
+      same : j ≡ k
+      same = go (compare g h)
+
+pub ends-once : {plan : Plan} {cs : List Bool} {j k : Config} {d e : Ending} → Ends plan cs j d → Ends plan cs k e → (j ≡ k) × (d ≡ e)
+ends-once {plan} g h = one-end (step (plan .arrays)) (g .run) (g .last) (h .run) (h .last)
