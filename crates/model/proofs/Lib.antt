@@ -5,3 +5,11 @@ pub mod Unmet
 pub mod Stamps
 pub mod Endings
 pub mod Numbering
+-- the check is exact
+pub mod Bits
+pub mod Status
+pub mod Through
+pub mod Summary
+pub mod Stuck
+pub mod Check
+pub mod Cases

@@ -1,0 +1,186 @@
+-- The ways that one cell can take through a block, by its status, and that they are those of the carried-on runs.
+use Prim.Native.Nat.{ℕ, _<_}
+use mathlib.Core.Path.{_≡_, refl, ap, sym, _∙_}
+use mathlib.Core.Logic.{_⊎_, inl, inr}
+use mathlib.Core.List.{List, [], _∷_}
+use mathlib.Core.Bool.{Bool, true, false, cond, true≢false}
+use Rattle.model.specs.Sides.{Arrays, cells}
+use Rattle.model.specs.Effects.{Action, State, start, met, effect}
+use Rattle.model.specs.Blocks.{Block, done, act, branch, loop, _then_, Plan}
+use Rattle.model.specs.Runs.{Event, Config, next, carry, Reached, here, onward}
+use Rattle.model.specs.Check.{Carried, MayStop}
+use Rattle.model.proofs.Runs.{config, event, next-same}
+use Rattle.model.proofs.Stamps.{Past, past, past-effect}
+use Rattle.model.proofs.Status.{Status, status-of, met-in, status-after, met-status, status-effect}
+
+-- any number of steps
+pub data Star (R : Status → Status → Type 0) : Status → Status → Type 0 where
+  stay : {u : Status} → Star R u u
+  more : {u w v : Status} → R u w → Star R w v → Star R u v
+
+module _ (arrays : Arrays) (c : ℕ) where
+  -- cell c can go through the block from status u to status v
+  abbrev pub Goes : Block → Status → Status → Type 0
+  Goes done u v = u ≡ v
+  Goes (act k x b) u v = Goes b (status-after arrays c x u) v
+  Goes (branch k x y b) u v = (w : Status) × (Goes x u w ⊎ Goes y u w) × Goes b w v
+  Goes (loop k x b) u v = (w : Status) × Star (Goes x) u w × Goes b w v
+
+  -- from status u it can stop at record r of the block
+  abbrev pub Stops : Block → Status → ℕ → Type 0
+  Stops done u r = ⊥
+  Stops (act k x b) u r = ((k ≡ r) × (met-in arrays c x u ≡ false)) ⊎ Stops b (status-after arrays c x u) r
+  Stops (branch k x y b) u r = (Stops x u r ⊎ Stops y u r) ⊎ ((w : Status) × (Goes x u w ⊎ Goes y u w) × Stops b w r)
+  Stops (loop k x b) u r = (w : Status) × Star (Goes x) u w × (Stops x w r ⊎ Stops b w r)
+
+  -- every stop of a carried-on run is one of these: from the stop back to the start
+  module _ (r : ℕ) where
+    -- a stop in x, or after it in b
+    abbrev InOrAfter : Block → Block → Status → Type 0
+    InOrAfter x b u = Stops x u r ⊎ ((w : Status) × Goes x u w × Stops b w r)
+
+    stops-then : (x b : Block) (u : Status) → Stops (x then b) u r → InOrAfter x b u
+    stops-then done b u s = inr (u, refl, s)
+    stops-then (act k y x) b u (inl s) = inl (inl s)
+    stops-then (act k y x) b u (inr s) = elim (stops-then x b (status-after arrays c y u) s) [ inl t ↦ inl (inr t) | inr t ↦ inr t ]
+    stops-then (branch k y z x) b u (inl s) = inl (inl s)
+    stops-then (branch k y z x) b u (inr s) = elim (stops-then x b (s .0) (s .2)) [ inl t ↦ inl (inr (s .0, s .1, t)) | inr t ↦ inr (t .0, (s .0, s .1, t .1), t .2) ]
+    stops-then (loop k y x) b u s = elim (s .2) [
+      | inl t ↦ inl (s .0, s .1, inl t)
+      | inr t ↦ elim (stops-then x b (s .0) t) [ inl q ↦ inl (s .0, s .1, inr q) | inr q ↦ inr (q .0, (s .0, s .1, q .1), q .2) ]
+    ]
+
+    stops-branch : (k : ℕ) (x y b : Block) (d : Bool) (u : Status) → Stops (cond d x y then b) u r → Stops (branch k x y b) u r
+    stops-branch k x y b true u s = elim (stops-then x b u s) [ inl t ↦ inl (inl t) | inr t ↦ inr (t .0, inl (t .1), t .2) ]
+    stops-branch k x y b false u s = elim (stops-then y b u s) [ inl t ↦ inl (inr t) | inr t ↦ inr (t .0, inr (t .1), t .2) ]
+
+    stops-loop : (k : ℕ) (x b : Block) (d : Bool) (u : Status) → Stops (cond d (x then loop k x b) b) u r → Stops (loop k x b) u r
+    stops-loop k x b true u s = elim (stops-then x (loop k x b) u s) [ inl t ↦ (u, stay, inl t) | inr t ↦ (t .2 .0, more (t .1) (t .2 .1), t .2 .2) ]
+    stops-loop k x b false u s = (u, stay, inr s)
+
+    -- a configuration from which the cell can stop
+    abbrev StopsFrom : Config → Type 0
+    StopsFrom k = Stops (k .left) (status-of arrays c (k .state)) r
+
+    stops-before : (b : Block) (cs : List Bool) (σ : State) (l : List Event) (k : Config) → Past σ →
+        carry arrays (config b cs σ l) ≡ next k → StopsFrom k → StopsFrom (config b cs σ l)
+    stops-before done cs σ l k p e = absurd (true≢false (cc))
+    stops-before (act q x b) cs σ l k p e = rw (← next-same _ k e) (λ s. inr (rw (status-effect arrays c x σ p) at s))
+    stops-before (branch q x y b) [] σ l k p e = absurd (true≢false (cc))
+    stops-before (branch q x y b) (d ∷ cs) σ l k p e = rw (← next-same _ k e) (stops-branch q x y b d (status-of arrays c σ))
+    stops-before (loop q x b) [] σ l k p e = absurd (true≢false (cc))
+    stops-before (loop q x b) (d ∷ cs) σ l k p e = rw (← next-same _ k e) (stops-loop q x b d (status-of arrays c σ))
+
+  -- each of these is a stop of some carried-on run: the choices are built from the last one to the first
+  module _ (r : ℕ) where
+    -- with b left, some choices lead to a stop at record r
+    record CanStop (b : Block) (σ : State) (l : List Event) : Type 0 where
+      choices : List Bool
+      last : Config
+      reached : Reached (carry arrays) (config b choices σ l) last
+      action : Action
+      rest : Block
+      left : last .left ≡ act r action rest
+      unmet : met arrays action (last .state) c ≡ false
+
+    reached-before : {k k′ m : Config} → carry arrays k ≡ next k′ → Reached (carry arrays) k′ m → Reached (carry arrays) k m
+    reached-before e here = onward here e
+    reached-before e (onward h f) = onward (reached-before e h) f
+
+    can-stop-before : {b b′ : Block} {σ σ′ : State} {l l′ : List Event} (taken : List Bool → List Bool) →
+        ((cs : List Bool) → carry arrays (config b (taken cs) σ l) ≡ next (config b′ cs σ′ l′)) → CanStop b′ σ′ l′ → CanStop b σ l
+    can-stop-before taken e m = record {
+      choices = taken (m .choices);
+      last = m .last;
+      reached = reached-before (e (m .choices)) (m .reached);
+      action = m .action;
+      rest = m .rest;
+      left = m .left;
+      unmet = m .unmet;
+    }
+
+    -- so it is in every state in which the cell has status u
+    abbrev From : Block → Status → Type 0
+    From b u = (σ : State) (l : List Event) → Past σ → status-of arrays c σ ≡ u → CanStop b σ l
+
+    from-act : (k : ℕ) (x : Action) (b : Block) (u : Status) → From b (status-after arrays c x u) → From (act k x b) u
+    from-act k x b u f σ l p e = can-stop-before (λ cs. cs) (λ cs. refl)
+        (f (effect arrays x σ) (event x σ ∷ l) (past-effect arrays x σ p) (status-effect arrays c x σ p ∙ ap (status-after arrays c x) e))
+
+    from-branch : (k : ℕ) (x y b : Block) (d : Bool) (u : Status) → From (cond d x y then b) u → From (branch k x y b) u
+    from-branch k x y b d u f σ l p e = can-stop-before (λ cs. d ∷ cs) (λ cs. refl) (f σ l p e)
+
+    from-loop : (k : ℕ) (x b : Block) (d : Bool) (u : Status) → From (cond d (x then loop k x b) b) u → From (loop k x b) u
+    from-loop k x b d u f σ l p e = can-stop-before (λ cs. d ∷ cs) (λ cs. refl) (f σ l p e)
+
+    from-star : (k : ℕ) (x b : Block) (u v : Status) → ((u v : Status) → Goes x u v → From (loop k x b) v → From (x then loop k x b) u) →
+        Star (Goes x) u v → From (loop k x b) v → From (loop k x b) u
+    from-star k x b u v one stay f = f
+    from-star k x b u v one (more {w = w} g s) f = from-loop k x b true u (one u w g (from-star k x b w v one s f))
+
+    -- through x, and then whatever b leads to
+    from-goes : (x b : Block) (u v : Status) → Goes x u v → From b v → From (x then b) u
+    from-goes done b u v g f = rw g f
+    from-goes (act k y x) b u v g f = from-act k y (x then b) u (from-goes x b (status-after arrays c y u) v g f)
+    from-goes (branch k y z x) b u v g f = elim (g .1) [
+      | inl h ↦ from-branch k y z (x then b) true u (from-goes y (x then b) u (g .0) h (from-goes x b (g .0) v (g .2) f))
+      | inr h ↦ from-branch k y z (x then b) false u (from-goes z (x then b) u (g .0) h (from-goes x b (g .0) v (g .2) f))
+    ]
+    from-goes (loop k y x) b u v g f = from-star k y (x then b) u (g .0) (from-goes y (loop k y (x then b))) (g .1)
+        (from-loop k y (x then b) false (g .0) (from-goes x b (g .0) v (g .2) f))
+
+    from-stops : (x b : Block) (u : Status) → Stops x u r → From (x then b) u
+    from-stops done b u s = absurd s
+    from-stops (act k y x) b u (inl s) = λ σ l p e. record {
+      choices = [];
+      last = config (act k y (x then b)) [] σ l;
+      reached = here;
+      action = y;
+      rest = x then b;
+      left = ap (λ q. act q y (x then b)) (s .0);
+      unmet = met-status arrays c y σ ∙ (ap (met-in arrays c y) e ∙ s .1);
+    }
+    from-stops (act k y x) b u (inr s) = from-act k y (x then b) u (from-stops x b (status-after arrays c y u) s)
+    from-stops (branch k y z x) b u (inl (inl s)) = from-branch k y z (x then b) true u (from-stops y (x then b) u s)
+    from-stops (branch k y z x) b u (inl (inr s)) = from-branch k y z (x then b) false u (from-stops z (x then b) u s)
+    from-stops (branch k y z x) b u (inr s) = elim (s .1) [
+      | inl h ↦ from-branch k y z (x then b) true u (from-goes y (x then b) u (s .0) h (from-stops x b (s .0) (s .2)))
+      | inr h ↦ from-branch k y z (x then b) false u (from-goes z (x then b) u (s .0) h (from-stops x b (s .0) (s .2)))
+    ]
+    from-stops (loop k y x) b u s = from-star k y (x then b) u (s .0) (from-goes y (loop k y (x then b))) (s .1) (elim (s .2) [
+      | inl t ↦ from-loop k y (x then b) true (s .0) (from-stops y (loop k y (x then b)) (s .0) t)
+      | inr t ↦ from-loop k y (x then b) false (s .0) (from-stops x b (s .0) t)
+    ])
+
+then-done : (x : Block) → x then done ≡ x
+then-done done = refl
+then-done (act k y x) = ap (act k y) (then-done x)
+then-done (branch k y z x) = ap (branch k y z) (then-done x)
+then-done (loop k y x) = ap (loop k y) (then-done x)
+
+module _ (plan : Plan) (r c : ℕ) where
+  -- from the plan's start the cell can stop at record r
+  abbrev pub StopsAt : Type 0
+  StopsAt = Stops (plan .arrays) c (plan .body) (status-of (plan .arrays) c (start (plan .arrays))) r
+
+  stops-begin : {cs : List Bool} {k : Config} → Carried plan cs k → StopsFrom (plan .arrays) c r k → StopsAt
+  stops-begin here s = s
+  stops-begin (onward {k = k} {k′} h e) s = stops-begin h (stops-before (plan .arrays) c r (k .left) (k .choices) (k .state) (k .history) k′ (past h) e s)
+
+  pub sound : MayStop plan r c → StopsAt
+  sound m = stops-begin (m .carried) (rw (m .left) (inl (refl, sym (met-status (plan .arrays) c (m .action) (m .config .state)) ∙ m .unmet)))
+
+  pub complete : c < cells (plan .arrays) → StopsAt → MayStop plan r c
+  complete h s =
+      let m : CanStop (plan .arrays) c r (plan .body) (start (plan .arrays)) [] =
+      rw then-done at (from-stops (plan .arrays) c r (plan .body) done _ s (start (plan .arrays)) [] (past {plan = plan} {cs = []} here) refl) in
+      record {
+        cell = h;
+        choices = m .choices;
+        config = m .last;
+        carried = m .reached;
+        action = m .action;
+        rest = m .rest;
+        left = m .left;
+        unmet = m .unmet;
+      }
