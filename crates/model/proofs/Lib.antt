@@ -13,3 +13,8 @@ pub mod Summary
 pub mod Stuck
 pub mod Check
 pub mod Cases
+-- demand 3
+pub mod Written
+pub mod Demand
+pub mod Demand3
+pub mod Example

@@ -1,0 +1,189 @@
+-- The run of an accepted plan's expansion goes from stage to stage, and no record of it is stuck.
+use Prim.Native.Nat.{ℕ, _<_}
+use mathlib.Core.Path.{_≡_, refl, ap, sym, _∙_, subst}
+use mathlib.Core.Logic.{_⊎_, inl, inr}
+use mathlib.Core.List.{List, [], _∷_}
+use mathlib.Core.Option.{Option, none, some}
+use mathlib.Core.Bool.{Bool, true, false, cond, false≢true}
+use native.Mathlib.Omega.{arith}
+use lib.Dec.{eqb}
+use borrow.Author.Tests.{eq-eqb}
+use Rattle.model.specs.Sides.{Side, other, Arrays, cells, array-of, Cells, within}
+use Rattle.model.specs.Effects.{Action, read, write, copy, need, mark, State, current, met, effect}
+use Rattle.model.specs.Blocks.{Block, act, branch, loop, _then_}
+use Rattle.model.specs.Runs.{Event, Config, Ending, finished, stopped, out-of-choices, Step, next, ends, carry, lowest-unmet, stop-or, step, here, onward, Run, Ends}
+use Rattle.model.specs.Judging.{Mode, R, W, RW, Declaration, Pass, Body0, DeclaredPlan, no-pass, pass-of, permits, Accepts}
+use Rattle.model.specs.Expanding.{given, declared, expand, expansion}
+use Rattle.model.specs.Demand.{Made}
+use Rattle.model.proofs.Runs.{config, event}
+use Rattle.model.proofs.Numbering.{within-array}
+use Rattle.model.proofs.Unmet.{none-unmet}
+use Rattle.model.proofs.Demand.Blocks.{_before_, then-assoc, expand-before}
+use Rattle.model.proofs.Demand.Numbers.{unnumbered, unnumbered-same, unnumbered-config, unnumbered-step, step-unnumbered}
+use Rattle.model.proofs.Demand.Stages.{declaration, Stage, in-body, declaring, marking, left-of, Progress, calling, Stages, begins, calls, enters, needs, marks, needs-first, marks-then, acts, branches, loops, branches0, loops0, judged, permitted-now}
+use Rattle.model.proofs.Demand.Coherence.{Current, opposite, at-cell, own-or-other, CoherentIn, undeclared, coherent}
+
+-- what a record of an accepted plan needs of a cell is there
+module _ (arrays : Arrays) (c : ℕ) (σ : State) where
+  is-current : (s : Side) → Current (at-cell arrays c σ) s → current σ s c ≡ true
+  is-current s e = rw e (eq-eqb (σ .latest c) (σ .latest c) refl)
+
+  read-met : (p : Pass) (b : Block) (s : Side) (x : Cells) → permits (p .declarations) (read s x) ≡ true → CoherentIn arrays c p b [] σ →
+      met arrays (read s x) σ c ≡ true
+  read-met p b s x e k = go (within arrays x c) refl
+    where
+      go : (z : Bool) → within arrays x c ≡ z → met arrays (read s x) σ c ≡ true
+      go true w = rw w (is-current s (k .readable refl s (rw (within-array arrays x c w) e) .0))
+      go false w = rw w
+
+  act-met : (p : Pass) (b : Block) (x : Action) → permits (p .declarations) x ≡ true → CoherentIn arrays c p b [] σ → met arrays x σ c ≡ true
+  act-met p b (read s x) e k = read-met p b s x e k
+  act-met p b (write s x) e k = refl
+  act-met p b (copy s x) e k = absurd (false≢true e)
+  act-met p b (need s a) e k = absurd (false≢true e)
+  act-met p b (mark s a) e k = refl
+
+  need-met : (p : Pass) (b : Block) (m : Mode) (s : Side) (a : ℕ) (ds : List Declaration) → CoherentIn arrays c p b (declaration m s a ∷ ds) σ →
+      met arrays (need s a) σ c ≡ true
+  need-met p b m s a ds k = go (σ .flag s a) refl (own-or-other arrays c a)
+    where
+      go : (z : Bool) → σ .flag s a ≡ z → (array-of arrays c ≡ a) ⊎ (eqb (array-of arrays c) a ≡ false) → met arrays (need s a) σ c ≡ true
+      go true e o = rw e
+      go false e (inl q) = rw (e, eq-eqb (array-of arrays c) a q)
+          (is-current (other s) (opposite s (at-cell arrays c σ) (k .flags-current (undeclared arrays c p b s a ds m q)) (k .flagged) (rw q e)))
+      go false e (inr q) = rw (e, q)
+
+module _ (plan : DeclaredPlan) (cs : List Bool) where
+  -- a configuration without record numbers that stands at a stage
+  pub record Follows (k : Config) : Type 0 where
+    stage : Stage
+    pub made : List Made
+    pub called : List Pass
+    left : k .left ≡ unnumbered (left-of (plan .passes) stage)
+    pub stages : Stages plan cs stage (k .choices) (record { state = k .state; history = k .history; made = made; called = called })
+
+  -- the last stage
+  pub record Finished (choices : List Bool) (history : List Event) : Type 0 where
+    pass : Pass
+    pub state : State
+    pub made : List Made
+    pub called : List Pass
+    pub stages : Stages plan cs (in-body pass Block.done Body0.done) choices (record { state = state; history = history; made = made; called = called })
+
+  -- a step that leads to a stage, or ends unstuck
+  abbrev pub Continues : List Bool → List Event → Step → Type 0
+  Continues ch l (next k) = Follows k
+  Continues ch l (ends finished) = Finished ch l
+  Continues ch l (ends (stopped r c)) = ⊥
+  Continues ch l (ends (out-of-choices r)) = Unit {0}
+
+  abbrev ContinuesFrom : Block → List Bool → Progress → Type 0
+  ContinuesFrom b ch n = Continues ch (n .history) (unnumbered-step (step (plan .arrays) (config b ch (n .state) (n .history))))
+
+  at-stage : {k : Stage} {n : Progress} (b : Block) (ch : List Bool) → b ≡ left-of (plan .passes) k → Stages plan cs k ch n →
+      Follows (config (unnumbered b) ch (n .state) (n .history))
+  at-stage {k} {n} b ch e h = record { stage = k; made = n .made; called = n .called; left = ap unnumbered e; stages = h }
+
+  act-next : (r : ℕ) (x : Action) (b : Block) (ch : List Bool) (n : Progress) →
+      ((c : ℕ) → c < cells (plan .arrays) → met (plan .arrays) x (n .state) c ≡ true) →
+      Follows (config (unnumbered b) ch (effect (plan .arrays) x (n .state)) (event x (n .state) ∷ n .history)) → ContinuesFrom (act r x b) ch n
+  act-next r x b ch n f k = go (lowest-unmet (plan .arrays) x (n .state)) (none-unmet (plan .arrays) x (n .state) f)
+    where
+      go : (o : Option ℕ) → o ≡ none →
+          Continues ch (n .history) (unnumbered-step (stop-or r o (carry (plan .arrays) (config (act r x b) ch (n .state) (n .history)))))
+      go none u = k
+      go (some c) u = let z : _≡_ {A = ℕ} 0 1 = cc in absurd (omega arith)
+
+  module _ (ok : Accepts plan) where
+    abbrev arrays : Arrays
+    arrays = plan .arrays
+
+    abbrev passes : List Pass
+    passes = plan .passes
+
+    declare-next : (p : Pass) (ds : List Declaration) (t : Body0) (ch : List Bool) (n : Progress) → Stages plan cs (declaring p ds t) ch n →
+        (Stages plan cs (in-body p (p .body) t) ch n → ContinuesFrom (p .body then expand passes t) ch n) → ContinuesFrom (left-of passes (declaring p ds t)) ch n
+    declare-next p [] t ch n h more = more (enters h)
+    declare-next p (d ∷ ds) t ch n h more = go (d .mode) h
+      where
+        rest : Block
+        rest = declared ds (p .body then expand passes t)
+
+        s : Side
+        s = d .side
+
+        a : ℕ
+        a = d .array
+
+        needed : (m : Mode) → Stages plan cs (declaring p (declaration m s a ∷ ds) t) ch n → (c : ℕ) → c < cells arrays →
+            met arrays (need s a) (n .state) c ≡ true
+        needed m h c i = need-met arrays c (n .state) p (p .body) m s a ds (coherent plan cs ok c i h)
+
+        go : (m : Mode) → Stages plan cs (declaring p (declaration m s a ∷ ds) t) ch n → ContinuesFrom (given m s a rest) ch n
+        go R h = act-next 0 (need s a) rest ch n (needed R h) (at-stage rest ch refl (needs h))
+        go W h = act-next 0 (mark s a) rest ch n (λ c i. refl) (at-stage rest ch refl (marks h))
+        go RW h = act-next 0 (need s a) (act 0 (mark s a) rest) ch n (needed RW h) (at-stage (act 0 (mark s a) rest) ch refl (needs-first h))
+
+    body-next : (b : Block) (t : Body0) (p : Pass) (ch : List Bool) (n : Progress) →
+        (Stages plan cs (in-body p Block.done t) ch n → ContinuesFrom (expand passes t) ch n) →
+        Stages plan cs (in-body p b t) ch n → ContinuesFrom (b then expand passes t) ch n
+    body-next Block.done t p ch n more h = more h
+    body-next (act r x b) t p ch n more h = act-next r x (b then expand passes t) ch n
+        (λ c i. act-met arrays c (n .state) p (act r x b) x (permitted-now x (judged plan cs ok h)) (coherent plan cs ok c i h))
+        (at-stage (b then expand passes t) ch refl (acts h))
+    body-next (branch r x y b) t p [] n more h = tt
+    body-next (branch r x y b) t p (c ∷ ch) n more h =
+        at-stage (cond c x y then (b then expand passes t)) ch (sym (then-assoc (cond c x y) b (expand passes t))) (branches h)
+    body-next (loop r x b) t p [] n more h = tt
+    body-next (loop r x b) t p (c ∷ ch) n more h = at-stage (cond c (x then loop r x (b then expand passes t)) (b then expand passes t)) ch (turn c) (loops h)
+      where
+        turn : (c : Bool) → cond c (x then loop r x (b then expand passes t)) (b then expand passes t) ≡ cond c (x then loop r x b) b then expand passes t
+        turn true = sym (then-assoc x (loop r x b) (expand passes t))
+        turn false = refl
+
+    body0-next : (t : Body0) (p : Pass) (ch : List Bool) (n : Progress) → Stages plan cs (in-body p Block.done t) ch n → ContinuesFrom (expand passes t) ch n
+    body0-next Body0.done p ch n h = record { pass = p; state = n .state; made = n .made; called = n .called; stages = h }
+    body0-next (Body0.call b t) p ch n h =
+        let q = pass-of passes b in
+        declare-next q (q .declarations) t ch (calling q n) (calls h) (body-next (q .body) t q ch (calling q n) (body0-next t q ch (calling q n)))
+    body0-next (Body0.branch x y t) p [] n h = tt
+    body0-next (Body0.branch x y t) p (c ∷ ch) n h = at-stage (cond c (expand passes x) (expand passes y) then expand passes t) ch (arm c) (branches0 h)
+      where
+        arm : (c : Bool) → cond c (expand passes x) (expand passes y) then expand passes t ≡ expand passes (cond c x y before t)
+        arm true = sym (expand-before passes x t)
+        arm false = sym (expand-before passes y t)
+    body0-next (Body0.loop x t) p [] n h = tt
+    body0-next (Body0.loop x t) p (c ∷ ch) n h = at-stage (cond c (expand passes x then expand passes (Body0.loop x t)) (expand passes t)) ch (turn c) (loops0 h)
+      where
+        turn : (c : Bool) → cond c (expand passes x then expand passes (Body0.loop x t)) (expand passes t) ≡ expand passes (cond c (x before Body0.loop x t) t)
+        turn true = sym (expand-before passes x (Body0.loop x t))
+        turn false = refl
+
+    stage-next : (k : Stage) (ch : List Bool) (n : Progress) → Stages plan cs k ch n → ContinuesFrom (left-of passes k) ch n
+    stage-next (in-body p b t) ch n h = body-next b t p ch n (body0-next t p ch n) h
+    stage-next (declaring p ds t) ch n h = declare-next p ds t ch n h (body-next (p .body) t p ch n (body0-next t p ch n))
+    stage-next (marking p s a m ds t) ch n h =
+        let rest = declared ds (p .body then expand passes t) in
+        act-next 0 (mark s a) rest ch n (λ c i. refl) (at-stage rest ch refl (marks-then h))
+
+    continue : (k : Config) → Follows (unnumbered-config k) → Continues (k .choices) (k .history) (unnumbered-step (step arrays k))
+    continue k f = subst (Continues (k .choices) (k .history)) same (stage-next (f .stage) (k .choices) _ (f .stages))
+      where
+        same : unnumbered-step (step arrays (config (left-of passes (f .stage)) (k .choices) (k .state) (k .history))) ≡ unnumbered-step (step arrays k)
+        same =
+            sym (step-unnumbered arrays (k .state) (k .history) (left-of passes (f .stage)) (k .choices))
+            ∙ ap (λ b. step arrays (config b (k .choices) (k .state) (k .history))) (sym (f .left))
+            ∙ step-unnumbered arrays (k .state) (k .history) (k .left) (k .choices)
+
+    pub follows : {k : Config} → Run (expansion plan) cs k → Follows (unnumbered-config k)
+    follows here = record {
+      stage = in-body no-pass Block.done (plan .body0);
+      made = [];
+      called = [];
+      left = unnumbered-same 0 (expand passes (plan .body0));
+      stages = begins;
+    }
+    follows (onward {k = k} h e) = subst (λ s. Continues (k .choices) (k .history) (unnumbered-step s)) e (continue k (follows h))
+
+    pub at-end : {k : Config} {e : Ending} → Ends (expansion plan) cs k e → Continues (k .choices) (k .history) (unnumbered-step (ends e))
+    at-end {k} f = subst (λ s. Continues (k .choices) (k .history) (unnumbered-step s)) (f .last) (continue k (follows (f .run)))

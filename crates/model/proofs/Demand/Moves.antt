@@ -1,0 +1,201 @@
+-- The flags of one array through the stages of a run, and the moves of the array in each of its intervals.
+use Prim.Native.Nat.{ℕ, suc}
+use mathlib.Core.Path.{_≡_, refl, ap, sym, _∙_, subst}
+use mathlib.Core.List.{List, [], _∷_, _++_}
+use mathlib.Core.Bool.{Bool, true, false, cond, not, _&&_, _||_, or-true, or-false, true≢false, false≢true}
+use lib.Dec.{eqb}
+use borrow.Author.Tests.{eqb-true}
+use Rattle.model.specs.Lists.{any}
+use Rattle.model.specs.Sides.{Side, host, other, is, Arrays}
+use Rattle.model.specs.Effects.{Action, read, write, copy, need, mark, State, effect}
+use Rattle.model.specs.Blocks.{Block}
+use Rattle.model.specs.Runs.{copies}
+use Rattle.model.specs.Judging.{Mode, R, W, RW, reads, writes, Declaration, Pass, Body0, DeclaredPlan, permits, Accepts}
+use Rattle.model.specs.Demand.{Made, declares-read, declares-write, moves, Opens, at-start, Closes, at-end}
+use Rattle.model.proofs.Booleans.{or-none, eqb-swap, is-not}
+use Rattle.model.proofs.Demand.Stages.{Stage, in-body, declaring, marking, Progress, Stages, begins, calls, enters, needs, marks, needs-first, marks-then, acts, branches, loops, branches0, loops0, judged, permitted-now}
+
+-- an interval of an array so far: the side of the declared write that begins it, and whether R has been declared on the opposite side since
+record Interval : Type 0 where
+  writer : Side
+  shared : Bool
+
+abbrev interval : Side → Bool → Interval
+interval w b = record { writer = w; shared = b }
+
+-- after one more declaration of the array
+abbrev extended : Mode → Side → Interval → Interval
+extended R s i = interval (i .writer) (is s (other (i .writer)) || i .shared)
+extended W s i = interval s false
+extended RW s i = interval s false
+
+-- the array's flags then
+abbrev flags : Interval → Side → Bool
+flags i t = is t (i .writer) || i .shared
+
+module _ (a : ℕ) where
+  -- whether a declaration is one of the array
+  abbrev own : Made → Bool
+  own d = eqb (d .declaration .array) a
+
+  -- the interval that declarations end in, the last one first
+  abbrev interval-of : List Made → Interval
+  interval-of [] = interval host false
+  interval-of (d ∷ l) = cond (own d) (extended (d .declaration .mode) (d .declaration .side) (interval-of l)) (interval-of l)
+
+  -- the need of a declaration of the array, if it has one, copied exactly if its flag was not set
+  abbrev ExactIn : Interval → Made → Type 0
+  ExactIn i d = own d ≡ true → d .copied ≡ (reads (d .declaration .mode) && not (flags i (d .declaration .side)))
+
+  abbrev Exact : List Made → Type 0
+  Exact [] = Unit {0}
+  Exact (d ∷ l) = ExactIn (interval-of l) d × Exact l
+
+  abbrev Flagged : State → Interval → Type 0
+  Flagged σ i = (t : Side) → σ .flag t a ≡ flags i t
+
+  need-flags : (arrays : Arrays) (s : Side) (b : ℕ) (σ : State) (i : Interval) → Flagged σ i →
+      Flagged (effect arrays (need s b) σ) (cond (eqb b a) (extended R s i) i)
+  need-flags arrays s b σ i f t = go (eqb b a) refl (σ .flag s b) refl
+    where
+      set : (x y z : Bool) → (x || y) ≡ true → (z || y) ≡ (z || (not x || y))
+      set true y z e = refl
+      set false y z e = rw e
+
+      clear : (x y z : Bool) → (x || y) ≡ false → true ≡ (z || (not x || y))
+      clear true y z e = absurd (true≢false e)
+      clear false y z e = sym (or-true z)
+
+      go : (o : Bool) → eqb b a ≡ o → (g : Bool) → σ .flag s b ≡ g → effect arrays (need s b) σ .flag t a ≡ flags (cond (eqb b a) (extended R s i) i) t
+      go true q true e = rw (q, e, f t, is-not s (i .writer)) (set (is s (i .writer)) (i .shared) (is t (i .writer)) (sym (f s) ∙ (rw (eqb-true b a q) at e)))
+      go true q false e = rw (q, e, eqb-swap a b, q, is-not s (i .writer)) (clear (is s (i .writer)) (i .shared) (is t (i .writer)) (sym (f s) ∙ (rw (eqb-true b a q) at e)))
+      go false q true e = rw (q, e) (f t)
+      go false q false e = rw (q, e, eqb-swap a b, q) (f t)
+
+  mark-flags : (arrays : Arrays) (s : Side) (b : ℕ) (σ : State) (i : Interval) → (eqb b a ≡ false → Flagged σ i) →
+      Flagged (effect arrays (mark s b) σ) (cond (eqb b a) (interval s false) i)
+  mark-flags arrays s b σ i f t = rw (eqb-swap a b) (go (eqb b a) refl)
+    where
+      go : (o : Bool) → eqb b a ≡ o → cond (eqb b a) (is t s) (σ .flag t a) ≡ flags (cond (eqb b a) (interval s false) i) t
+      go true q = rw (q, or-false (is t s))
+      go false q = rw q (f q t)
+
+  record Counted (σ : State) (made : List Made) : Type 0 where
+    flagged : Flagged σ (interval-of made)
+    exact : Exact made
+
+  -- between the need and the mark of an RW nothing is said
+  abbrev CountedAt : Stage → Progress → Type 0
+  CountedAt (in-body p b t) n = Counted (n .state) (n .made)
+  CountedAt (declaring p ds t) n = Counted (n .state) (n .made)
+  CountedAt (marking p s b m ds t) n = Unit {0}
+
+  act-counted : (arrays : Arrays) (ds : List Declaration) (x : Action) (σ : State) (made : List Made) → permits ds x ≡ true → Counted σ made →
+      Counted (effect arrays x σ) made
+  act-counted arrays ds (read s x) σ l e k = k
+  act-counted arrays ds (write s x) σ l e k = record { flagged = k .flagged; exact = k .exact }
+  act-counted arrays ds (copy s x) σ l e k = absurd (false≢true e)
+  act-counted arrays ds (need s b) σ l e k = absurd (false≢true e)
+  act-counted arrays ds (mark s b) σ l e k = absurd (false≢true e)
+
+  copies-exactly : (s : Side) (b : ℕ) (σ : State) (i : Interval) → Flagged σ i → eqb b a ≡ true → copies (need s b) σ ≡ not (flags i s)
+  copies-exactly s b σ i f q = rw (eqb-true b a q) (ap not (f s))
+
+  module _ (plan : DeclaredPlan) (cs : List Bool) (ok : Accepts plan) where
+    counted : {k : Stage} {ch : List Bool} {n : Progress} → Stages plan cs k ch n → CountedAt k n
+    counted begins = record { flagged = λ t. sym (or-false (is t host)); exact = tt }
+    counted (calls h) = counted h
+    counted (enters h) = counted h
+    counted (needs {s = s} {a = b} {n = n} h) = let k = counted h in record {
+      flagged = need-flags (plan .arrays) s b (n .state) (interval-of (n .made)) (k .flagged);
+      exact = (copies-exactly s b (n .state) (interval-of (n .made)) (k .flagged), k .exact);
+    }
+    counted (marks {s = s} {a = b} {n = n} h) = let k = counted h in record {
+      flagged = mark-flags (plan .arrays) s b (n .state) (interval-of (n .made)) (λ q. k .flagged);
+      exact = (λ q. refl, k .exact);
+    }
+    counted (needs-first h) = tt
+    counted (marks-then (needs-first {s = s} {a = b} {n = n} h)) =
+        let k = counted h in
+        let i = interval-of (n .made) in
+        record {
+          flagged = mark-flags (plan .arrays) s b (effect (plan .arrays) (need s b) (n .state)) i (λ q. rw q at (need-flags (plan .arrays) s b (n .state) i (k .flagged)));
+          exact = (copies-exactly s b (n .state) i (k .flagged), k .exact);
+        }
+    counted (acts {p = p} {x = x} {n = n} h) = act-counted (plan .arrays) (p .declarations) x (n .state) (n .made) (permitted-now x (judged plan cs ok h)) (counted h)
+    counted (branches h) = counted h
+    counted (loops h) = counted h
+    counted (branches0 h) = counted h
+    counted (loops0 h) = counted h
+
+  opened : {l : List Made} {w : Side} → Opens a l w → interval-of l ≡ interval w false
+  opened at-start = refl
+  opened (Opens.at-write d l e) = go (own d) (d .declaration .mode) e
+    where
+      go : (o : Bool) (m : Mode) → (o && writes m) ≡ true →
+          cond o (extended m (d .declaration .side) (interval-of l)) (interval-of l) ≡ interval (d .declaration .side) false
+      go true R q = absurd (false≢true q)
+      go true W q = refl
+      go true RW q = refl
+      go false m q = absurd (false≢true q)
+
+  -- one more declaration, no declared write of the array
+  extended-by-read : (o : Bool) (m : Mode) (s w : Side) (b : Bool) → (o && writes m) ≡ false →
+      cond o (extended m s (interval w b)) (interval w b) ≡ interval w (o && (reads m && is s (other w)) || b)
+  extended-by-read true R s w b e = refl
+  extended-by-read true W s w b e = absurd (true≢false e)
+  extended-by-read true RW s w b e = absurd (true≢false e)
+  extended-by-read false m s w b e = refl
+
+  -- one more declaration moves the array if it is the first to read on the opposite side
+  one-more : (d : Made) (w : Side) (b : Bool) (k : ℕ) → ExactIn (interval w b) d → k ≡ cond b 1 0 →
+      cond (own d && d .copied) (suc k) k ≡ cond (declares-read a (other w) d || b) 1 0
+  one-more d w b k f e = rw (is-not (d .declaration .side) w) (go (own d) f)
+    where
+      moved : (r o b : Bool) → k ≡ cond b 1 0 → cond (r && not (o || b)) (suc k) k ≡ cond (r && not o || b) 1 0
+      moved false o b e = e
+      moved true true b e = e
+      moved true false true e = e
+      moved true false false e = ap suc e
+
+      go : (o : Bool) → (o ≡ true → d .copied ≡ (reads (d .declaration .mode) && not (flags (interval w b) (d .declaration .side)))) →
+          cond (o && d .copied) (suc k) k ≡ cond (o && (reads (d .declaration .mode) && not (is (d .declaration .side) w)) || b) 1 0
+      go true g = rw (g refl) (moved (reads (d .declaration .mode)) (is (d .declaration .side) w) b e)
+      go false g = e
+
+  -- declarations of an interval after the one that begins it, none of them a declared write of the array
+  record Counts (w : Side) (during before : List Made) : Type 0 where
+    stands : interval-of (during ++ before) ≡ interval w (any (declares-read a (other w)) during)
+    moved : moves a during ≡ cond (any (declares-read a (other w)) during) 1 0
+
+  counts : (w : Side) (during before : List Made) → interval-of before ≡ interval w false → any (declares-write a) during ≡ false →
+      Exact (during ++ before) → Counts w during before
+  counts w [] before e n x = record { stands = e; moved = refl }
+  counts w (d ∷ l) before e n x =
+      let o = or-none (declares-write a d) (any (declares-write a) l) n in
+      let i = counts w l before e (o .1) (x .1) in
+      let b = any (declares-read a (other w)) l in
+      record {
+        stands = rw (i .stands) (extended-by-read (own d) (d .declaration .mode) (d .declaration .side) w b (o .0));
+        moved = one-more d w b (moves a l) (λ q. rw (i .stands) at (x .0 q)) (i .moved);
+      }
+
+  exact-from : (after l : List Made) → Exact (after ++ l) → Exact l
+  exact-from [] l x = x
+  exact-from (d ∷ after) l x = exact-from after l (x .1)
+
+  intervals : (made : List Made) → Exact made → (w : Side) (before during after : List Made) → made ≡ after ++ (during ++ before) → Opens a before w →
+      Closes a during after →
+      moves a during ≡ cond (any (declares-read a (other w)) during) 1 0
+  intervals made x w before during after e o (at-end l n) = counts w l before (opened o) n (subst Exact e x) .moved
+  intervals made x w before during after e o (Closes.at-next d l after′ n y) =
+      let z = exact-from after ((d ∷ l) ++ before) (subst Exact e x) in
+      let i = counts w l before (opened o) n (z .1) in
+      one-more d w (any (declares-read a (other w)) l) (moves a l) (λ q. rw (i .stands) at (z .0 q)) (i .moved)
+
+  -- in each interval the array moves once if R or RW of it is declared on the opposite side, else never
+  pub moves-once : (plan : DeclaredPlan) (cs : List Bool) → Accepts plan → {p : Pass} {b : Block} {t : Body0} {ch : List Bool} {n : Progress} →
+      Stages plan cs (in-body p b t) ch n →
+      (w : Side) (before during after : List Made) → n .made ≡ after ++ (during ++ before) → Opens a before w → Closes a during after →
+      moves a during ≡ cond (any (declares-read a (other w)) during) 1 0
+  moves-once plan cs ok {n = n} h = intervals (n .made) (counted plan cs ok h .exact)

@@ -1,0 +1,61 @@
+-- Record numbers make no difference to a run but to the numbers that it ends with.
+use Prim.Native.Nat.{ℕ, suc}
+use mathlib.Core.Path.{_≡_, refl, ap, sym}
+use mathlib.Core.List.{List, [], _∷_}
+use mathlib.Core.Bool.{Bool, true, false}
+use mathlib.Core.Option.{Option, none, some}
+use Rattle.model.specs.Sides.{Arrays}
+use Rattle.model.specs.Effects.{State}
+use Rattle.model.specs.Blocks.{Block, done, act, branch, loop, _then_, numbered}
+use Rattle.model.specs.Runs.{Event, Config, Ending, finished, stopped, out-of-choices, Step, next, ends, carry, lowest-unmet, stop-or, step}
+use Rattle.model.proofs.Runs.{config}
+
+-- a block with every record number 0
+abbrev pub unnumbered : Block → Block
+unnumbered done = done
+unnumbered (act r x b) = act 0 x (unnumbered b)
+unnumbered (branch r x y b) = branch 0 (unnumbered x) (unnumbered y) (unnumbered b)
+unnumbered (loop r x b) = loop 0 (unnumbered x) (unnumbered b)
+
+unnumbered-then : (a b : Block) → unnumbered (a then b) ≡ unnumbered a then unnumbered b
+unnumbered-then done b = refl
+unnumbered-then (act r x a) b = ap (act 0 x) (unnumbered-then a b)
+unnumbered-then (branch r x y a) b = ap (branch 0 (unnumbered x) (unnumbered y)) (unnumbered-then a b)
+unnumbered-then (loop r x a) b = ap (loop 0 (unnumbered x)) (unnumbered-then a b)
+
+pub unnumbered-same : (r : ℕ) (b : Block) → unnumbered (numbered r b) ≡ unnumbered b
+unnumbered-same r done = refl
+unnumbered-same r (act q x b) = ap (act 0 x) (unnumbered-same (suc r) b)
+unnumbered-same r (branch q x y b) = rw (unnumbered-same _ x, unnumbered-same _ y, unnumbered-same _ b)
+unnumbered-same r (loop q x b) = rw (unnumbered-same _ x, unnumbered-same _ b)
+
+abbrev pub unnumbered-config : Config → Config
+unnumbered-config k = config (unnumbered (k .left)) (k .choices) (k .state) (k .history)
+
+abbrev unnumbered-ending : Ending → Ending
+unnumbered-ending finished = finished
+unnumbered-ending (stopped r c) = stopped 0 c
+unnumbered-ending (out-of-choices r) = out-of-choices 0
+
+abbrev pub unnumbered-step : Step → Step
+unnumbered-step (next k) = next (unnumbered-config k)
+unnumbered-step (ends e) = ends (unnumbered-ending e)
+
+module _ (arrays : Arrays) (σ : State) (l : List Event) where
+  abbrev to : List Bool → Block → Step
+  to cs b = next (config b cs σ l)
+
+  pub step-unnumbered : (b : Block) (cs : List Bool) → step arrays (config (unnumbered b) cs σ l) ≡ unnumbered-step (step arrays (config b cs σ l))
+  step-unnumbered done cs = refl
+  step-unnumbered (act r x b) cs = go (lowest-unmet arrays x σ)
+    where
+      go : (o : Option ℕ) →
+          stop-or 0 o (carry arrays (config (act 0 x (unnumbered b)) cs σ l)) ≡ unnumbered-step (stop-or r o (carry arrays (config (act r x b) cs σ l)))
+      go none = refl
+      go (some c) = refl
+  step-unnumbered (branch r x y b) [] = refl
+  step-unnumbered (branch r x y b) (true ∷ cs) = ap (to cs) (sym (unnumbered-then x b))
+  step-unnumbered (branch r x y b) (false ∷ cs) = ap (to cs) (sym (unnumbered-then y b))
+  step-unnumbered (loop r x b) [] = refl
+  step-unnumbered (loop r x b) (true ∷ cs) = ap (to cs) (sym (unnumbered-then x (loop r x b)))
+  step-unnumbered (loop r x b) (false ∷ cs) = refl

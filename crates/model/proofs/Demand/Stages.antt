@@ -1,0 +1,231 @@
+-- The stages of a run of an expansion, and what holds at each: the walk through body 0, the declarations made,
+-- the judge's rules for what is left of the pass, the needs and marks executed.
+use Prim.Native.Nat.{ℕ}
+use mathlib.Core.Path.{_≡_, refl, ap, _∙_}
+use mathlib.Core.List.{List, [], _∷_, map, reverseAux as onto}
+use mathlib.Core.Bool.{Bool, true, false, cond, false≢true}
+use Rattle.model.specs.Lists.{All}
+use Rattle.model.specs.Sides.{Side, Arrays}
+use Rattle.model.specs.Effects.{Action, read, write, copy, need, mark, State, start, effect}
+use Rattle.model.specs.Blocks.{Block, act, branch, loop, _then_}
+use Rattle.model.specs.Runs.{Event, copies}
+use Rattle.model.specs.Judging.{Mode, R, W, RW, Declaration, Pass, Body0, DeclaredPlan, no-pass, pass-of, declared-once, permits, every, Way, Accepts}
+use Rattle.model.specs.Expanding.{declared, expand}
+use Rattle.model.specs.Demand.{Walk, declarations-of, Made, executed-of, asked}
+use Rattle.model.proofs.Booleans.{and-out}
+use Rattle.model.proofs.Runs.{event}
+use Rattle.model.proofs.Demand.Blocks.{_before_, every-branch, every-loop}
+use Rattle.model.proofs.Demand.Walks.{HasWay, way-branch, way-loop, walk-branch, walk-turn}
+use Rattle.model.proofs.Demand.Declarations.{Rule, each-rule, rules-of, once-rest}
+
+abbrev pub declaration : Mode → Side → ℕ → Declaration
+declaration m s a = record { mode = m; side = s; array = a }
+
+-- where a run stands: in the body of a pass, with a block of it left; with declarations of a pass still to make;
+-- or between the need and the mark of an RW, with whether the need copied. Each with what is left of body 0.
+pub data Stage : Type 0 where
+  in-body : Pass → Block → Body0 → Stage
+  declaring : Pass → List Declaration → Body0 → Stage
+  marking : Pass → Side → ℕ → Bool → List Declaration → Body0 → Stage
+
+-- the pass at hand, its declarations still to make, what is left of its body, and what is left of body 0
+abbrev pub pass-at : Stage → Pass
+pass-at (in-body p b t) = p
+pass-at (declaring p ds t) = p
+pass-at (marking p s a m ds t) = p
+
+abbrev pub ahead : Stage → List Declaration
+ahead (in-body p b t) = []
+ahead (declaring p ds t) = ds
+ahead (marking p s a m ds t) = declaration RW s a ∷ ds
+
+abbrev pub body-left : Stage → Block
+body-left (in-body p b t) = b
+body-left (declaring p ds t) = p .body
+body-left (marking p s a m ds t) = p .body
+
+abbrev body0-left : Stage → Body0
+body0-left (in-body p b t) = t
+body0-left (declaring p ds t) = t
+body0-left (marking p s a m ds t) = t
+
+-- the block that is left
+abbrev pub left-of : List Pass → Stage → Block
+left-of passes (in-body p b t) = b then expand passes t
+left-of passes (declaring p ds t) = declared ds (p .body then expand passes t)
+left-of passes (marking p s a m ds t) = act 0 (mark s a) (declared ds (p .body then expand passes t))
+
+-- what a run has done: its state and history, the declarations made and the passes called, the last one first
+pub record Progress : Type 0 where
+  pub state : State
+  pub history : List Event
+  pub made : List Made
+  pub called : List Pass
+
+abbrev making : Mode → Side → ℕ → Bool → Progress → Progress
+making m s a copied n = record { state = n .state; history = n .history; made = record { declaration = declaration m s a; copied = copied } ∷ n .made; called = n .called }
+
+abbrev pub calling : Pass → Progress → Progress
+calling p n = record { state = n .state; history = n .history; made = n .made; called = p ∷ n .called }
+
+module _ (plan : DeclaredPlan) (cs : List Bool) where
+  abbrev executing : Action → Progress → Progress
+  executing x n = record { state = effect (plan .arrays) x (n .state); history = event x (n .state) ∷ n .history; made = n .made; called = n .called }
+
+  abbrev first : Progress
+  first = record { state = start (plan .arrays); history = []; made = []; called = [] }
+
+  -- the stages that the run on the choices cs goes through, each with the choices left
+  pub data Stages : Stage → List Bool → Progress → Type 0 where
+    begins : Stages (in-body no-pass Block.done (plan .body0)) cs first
+    calls : {p : Pass} {b : ℕ} {t : Body0} {ch : List Bool} {n : Progress} → Stages (in-body p Block.done (Body0.call b t)) ch n →
+        Stages (declaring (pass-of (plan .passes) b) (pass-of (plan .passes) b .declarations) t) ch (calling (pass-of (plan .passes) b) n)
+    enters : {p : Pass} {t : Body0} {ch : List Bool} {n : Progress} → Stages (declaring p [] t) ch n → Stages (in-body p (p .body) t) ch n
+    -- R
+    needs : {p : Pass} {s : Side} {a : ℕ} {ds : List Declaration} {t : Body0} {ch : List Bool} {n : Progress} →
+        Stages (declaring p (declaration R s a ∷ ds) t) ch n →
+        Stages (declaring p ds t) ch (making R s a (copies (need s a) (n .state)) (executing (need s a) n))
+    -- W
+    marks : {p : Pass} {s : Side} {a : ℕ} {ds : List Declaration} {t : Body0} {ch : List Bool} {n : Progress} →
+        Stages (declaring p (declaration W s a ∷ ds) t) ch n →
+        Stages (declaring p ds t) ch (making W s a false (executing (mark s a) n))
+    -- RW
+    needs-first : {p : Pass} {s : Side} {a : ℕ} {ds : List Declaration} {t : Body0} {ch : List Bool} {n : Progress} →
+        Stages (declaring p (declaration RW s a ∷ ds) t) ch n →
+        Stages (marking p s a (copies (need s a) (n .state)) ds t) ch (executing (need s a) n)
+    marks-then : {p : Pass} {s : Side} {a : ℕ} {m : Bool} {ds : List Declaration} {t : Body0} {ch : List Bool} {n : Progress} →
+        Stages (marking p s a m ds t) ch n →
+        Stages (declaring p ds t) ch (making RW s a m (executing (mark s a) n))
+    -- the body of a pass
+    acts : {p : Pass} {r : ℕ} {x : Action} {b : Block} {t : Body0} {ch : List Bool} {n : Progress} → Stages (in-body p (act r x b) t) ch n →
+        Stages (in-body p b t) ch (executing x n)
+    branches : {p : Pass} {r : ℕ} {x y b : Block} {t : Body0} {c : Bool} {ch : List Bool} {n : Progress} → Stages (in-body p (branch r x y b) t) (c ∷ ch) n →
+        Stages (in-body p (cond c x y then b) t) ch n
+    loops : {p : Pass} {r : ℕ} {x b : Block} {t : Body0} {c : Bool} {ch : List Bool} {n : Progress} → Stages (in-body p (loop r x b) t) (c ∷ ch) n →
+        Stages (in-body p (cond c (x then loop r x b) b) t) ch n
+    -- body 0
+    branches0 : {p : Pass} {x y t : Body0} {c : Bool} {ch : List Bool} {n : Progress} → Stages (in-body p Block.done (Body0.branch x y t)) (c ∷ ch) n →
+        Stages (in-body p Block.done (cond c x y before t)) ch n
+    loops0 : {p : Pass} {x t : Body0} {c : Bool} {ch : List Bool} {n : Progress} → Stages (in-body p Block.done (Body0.loop x t)) (c ∷ ch) n →
+        Stages (in-body p Block.done (cond c (x before Body0.loop x t) t)) ch n
+
+  -- whatever walks on from a stage has walked from the start
+  record WalksOn (b : Block) (t : Body0) (ch : List Bool) (ps : List Pass) : Type 0 where
+    from-start : (ds es : List Bool) (qs : List Pass) → HasWay b ch ds → Walk (plan .passes) t ds ps es qs → Walk (plan .passes) (plan .body0) cs [] es qs
+
+  through-done : {t : Body0} {ch ds es : List Bool} {w : List Action} {ps qs : List Pass} →
+      Way Block.done ch ds w → Walk (plan .passes) t ds ps es qs → Walk (plan .passes) t ch ps es qs
+  through-done Way.done k = k
+
+  abbrev empty-way : {ch : List Bool} → HasWay Block.done ch ch
+  empty-way = record { records = []; way = Way.done }
+
+  walks : {k : Stage} {ch : List Bool} {n : Progress} → Stages k ch n → WalksOn (body-left k) (body0-left k) ch (n .called)
+  walks begins = record { from-start = λ ds es qs u w. through-done (u .way) w }
+  walks (calls {ch = ch} h) =
+      let i = walks h in
+      record { from-start = λ ds es qs u w. i .from-start ch es qs empty-way (Walk.call (u .way) w) }
+  walks (enters h) = walks h
+  walks (needs h) = walks h
+  walks (marks h) = walks h
+  walks (needs-first h) = walks h
+  walks (marks-then h) = walks h
+  walks (acts {x = x} h) =
+      let i = walks h in
+      record { from-start = λ ds es qs u w. i .from-start ds es qs (record { records = x ∷ u .records; way = Way.act (u .way) }) w }
+  walks (branches {r = r} {x} {y} {b} {c = c} h) =
+      let i = walks h in
+      record { from-start = λ ds es qs u w. i .from-start ds es qs (way-branch r c x y b u) w }
+  walks (loops {r = r} {x} {b} {c = c} h) =
+      let i = walks h in
+      record { from-start = λ ds es qs u w. i .from-start ds es qs (way-loop r c x b u) w }
+  walks (branches0 {x = x} {y} {t} {c} {ch} h) =
+      let i = walks h in
+      record { from-start = λ ds es qs u w. i .from-start (c ∷ ch) es qs empty-way (walk-branch (plan .passes) c x y t (through-done (u .way) w)) }
+  walks (loops0 {x = x} {t} {c} {ch} h) =
+      let i = walks h in
+      record { from-start = λ ds es qs u w. i .from-start (c ∷ ch) es qs empty-way (walk-turn (plan .passes) c x t (through-done (u .way) w)) }
+
+  -- at the end body 0 has been walked through
+  pub walked : {p : Pass} {ch : List Bool} {n : Progress} → Stages (in-body p Block.done Body0.done) ch n →
+      Walk (plan .passes) (plan .body0) cs [] ch (n .called)
+  walked {ch = ch} {n} h = walks h .from-start ch ch (n .called) empty-way Walk.done
+
+  -- the declarations made, and then those ahead, are those of the passes called
+  pub declares-all : {k : Stage} {ch : List Bool} {n : Progress} → Stages k ch n →
+      onto (ahead k) (map (λ (d : Made). d .declaration) (n .made)) ≡ declarations-of (n .called)
+  declares-all begins = refl
+  declares-all (calls {b = b} h) = ap (onto (pass-of (plan .passes) b .declarations)) (declares-all h)
+  declares-all (enters h) = declares-all h
+  declares-all (needs h) = declares-all h
+  declares-all (marks h) = declares-all h
+  declares-all (needs-first h) = declares-all h
+  declares-all (marks-then h) = declares-all h
+  declares-all (acts h) = declares-all h
+  declares-all (branches h) = declares-all h
+  declares-all (loops h) = declares-all h
+  declares-all (branches0 h) = declares-all h
+  declares-all (loops0 h) = declares-all h
+
+-- what the judge accepts holds of what is ahead in pass p: of the declarations ds and the block b
+pub record Judged (arrays : Arrays) (p : Pass) (ds : List Declaration) (b : Block) : Type 0 where
+  pub rules : All (Rule arrays p) ds
+  pub once : declared-once ds ≡ true
+  pub permitted : every (permits (p .declarations)) b ≡ true
+
+judged-rest : {arrays : Arrays} {p : Pass} {d : Declaration} {ds : List Declaration} {b : Block} → Judged arrays p (d ∷ ds) b → Judged arrays p ds b
+judged-rest {d = d} {ds} k = record { rules = k .rules .1; once = once-rest d ds (k .once); permitted = k .permitted }
+
+-- the record at hand
+pub permitted-now : {arrays : Arrays} {p : Pass} {ds : List Declaration} {r : ℕ} {b : Block} (x : Action) → Judged arrays p ds (act r x b) →
+    permits (p .declarations) x ≡ true
+permitted-now {p = p} {b = b} x k = and-out (permits (p .declarations) x) (every (permits (p .declarations)) b) (k .permitted) .0
+
+module _ (plan : DeclaredPlan) (cs : List Bool) (ok : Accepts plan) where
+  pub judged : {k : Stage} {ch : List Bool} {n : Progress} → Stages plan cs k ch n → Judged (plan .arrays) (pass-at k) (ahead k) (body-left k)
+  judged begins = record { rules = tt; once = refl; permitted = refl }
+  judged (calls {b = b} h) =
+      let p = pass-of (plan .passes) b in
+      let g = rules-of (plan .arrays) (plan .passes) ok b in
+      record { rules = each-rule (plan .arrays) p g; once = g .once; permitted = g .permitted }
+  judged (enters h) = judged h
+  judged (needs h) = judged-rest (judged h)
+  judged (marks h) = judged-rest (judged h)
+  judged (needs-first h) = judged h
+  judged (marks-then h) = judged-rest (judged h)
+  judged (acts {p = p} {x = x} {b} h) =
+      let f = permits (p .declarations) in
+      record { rules = tt; once = refl; permitted = and-out (f x) (every f b) (judged h .permitted) .1 }
+  judged (branches {p = p} {r} {x} {y} {b} {c = c} h) =
+      record { rules = tt; once = refl; permitted = every-branch (permits (p .declarations)) r c x y b (judged h .permitted) }
+  judged (loops {p = p} {r} {x} {b} {c = c} h) =
+      record { rules = tt; once = refl; permitted = every-loop (permits (p .declarations)) r c x b (judged h .permitted) }
+  judged (branches0 h) = judged h
+  judged (loops0 h) = judged h
+
+  -- the needs and marks executed are those of the declarations made; the need of an RW comes before the RW counts as made
+  abbrev Asked : Stage → Progress → Type 0
+  Asked (in-body p b t) n = asked (n .history) ≡ executed-of (n .made)
+  Asked (declaring p ds t) n = asked (n .history) ≡ executed-of (n .made)
+  Asked (marking p s a m ds t) n = asked (n .history) ≡ record { action = need s a; copied = m } ∷ executed-of (n .made)
+
+  permitted-asks : (ds : List Declaration) (x : Action) (σ : State) (l : List Event) → permits ds x ≡ true → asked (event x σ ∷ l) ≡ asked l
+  permitted-asks ds (read s x) σ l e = refl
+  permitted-asks ds (write s x) σ l e = refl
+  permitted-asks ds (copy s x) σ l e = refl
+  permitted-asks ds (need s a) σ l e = absurd (false≢true e)
+  permitted-asks ds (mark s a) σ l e = absurd (false≢true e)
+
+  pub asks-all : {k : Stage} {ch : List Bool} {n : Progress} → Stages plan cs k ch n → Asked k n
+  asks-all begins = refl
+  asks-all (calls h) = asks-all h
+  asks-all (enters h) = asks-all h
+  asks-all (needs {s = s} {a} {n = n} h) = ap (_∷_ (event (need s a) (n .state))) (asks-all h)
+  asks-all (marks {s = s} {a} {n = n} h) = ap (_∷_ (event (mark s a) (n .state))) (asks-all h)
+  asks-all (needs-first {s = s} {a} {n = n} h) = ap (_∷_ (event (need s a) (n .state))) (asks-all h)
+  asks-all (marks-then {s = s} {a} {n = n} h) = ap (_∷_ (event (mark s a) (n .state))) (asks-all h)
+  asks-all (acts {p = p} {x = x} {n = n} h) = permitted-asks (p .declarations) x (n .state) (n .history) (permitted-now x (judged h)) ∙ asks-all h
+  asks-all (branches h) = asks-all h
+  asks-all (loops h) = asks-all h
+  asks-all (branches0 h) = asks-all h
+  asks-all (loops0 h) = asks-all h

@@ -1,0 +1,74 @@
+-- Demand 3, of every plan that the judge accepts and every list of choices.
+use Prim.Native.Nat.{ℕ, _<_}
+use mathlib.Core.Path.{_≡_, refl, ap, _∙_}
+use mathlib.Core.List.{List}
+use mathlib.Core.Option.{Option, none, some}
+use mathlib.Core.Bool.{Bool, true, false≢true}
+use borrow.Author.Tests.{eqb-true}
+use Rattle.model.specs.Sides.{Side, Stamp, never, at, equals, cells, Cells, within}
+use Rattle.model.specs.Effects.{Action, read}
+use Rattle.model.specs.Blocks.{Block, act}
+use Rattle.model.specs.Runs.{Config, stopped, carry, lowest-unmet, stop-or, step, Run, Ends}
+use Rattle.model.specs.Judging.{DeclaredPlan, Accepts}
+use Rattle.model.specs.Expanding.{expansion}
+use Rattle.model.specs.Demand.{latest-write, Moves, Demand3}
+use Rattle.model.proofs.Runs.{config, carried}
+use Rattle.model.proofs.Stamps.{tracked}
+use Rattle.model.proofs.Unmet.{all-met}
+use Rattle.model.proofs.Demand.Walks.{walk-same}
+use Rattle.model.proofs.Demand.Stages.{walked, declares-all, asks-all}
+use Rattle.model.proofs.Demand.Coherence.{coherent}
+use Rattle.model.proofs.Demand.Moves.{moves-once}
+use Rattle.model.proofs.Demand.Following.{Finished, follows, at-end}
+
+equal-stamp : (x : Stamp) (k : ℕ) → equals x k ≡ true → x ≡ at k
+equal-stamp never k e = absurd (false≢true e)
+equal-stamp (at j) k e = ap at (eqb-true j k e)
+
+module _ (plan : DeclaredPlan) (cs : List Bool) (ok : Accepts plan) where
+  unstuck : (k : Config) (r c : ℕ) → Ends (expansion plan) cs k (stopped r c) → ⊥
+  unstuck k r c e = at-end plan cs ok e
+
+  met-now : {k : Config} → Run (expansion plan) cs k → (r : ℕ) (x : Action) (b : Block) → k .left ≡ act r x b →
+      lowest-unmet (plan .arrays) x (k .state) ≡ none
+  met-now {k} h r x b e = go (lowest-unmet (plan .arrays) x (k .state)) refl
+    where
+      at-record : step (plan .arrays) k ≡ stop-or r (lowest-unmet (plan .arrays) x (k .state)) (carry (plan .arrays) (config (act r x b) (k .choices) (k .state) (k .history)))
+      at-record = ap (λ l. step (plan .arrays) (config l (k .choices) (k .state) (k .history))) e
+
+      go : (o : Option ℕ) → lowest-unmet (plan .arrays) x (k .state) ≡ o → lowest-unmet (plan .arrays) x (k .state) ≡ none
+      go none u = u
+      go (some c) u = absurd (unstuck k r c (record { run = h; last = rw u at at-record }))
+
+  latest : {k : Config} → Run (expansion plan) cs k → (s : Side) (c : ℕ) → k .state .held s c ≡ at (k .state .latest c) →
+      k .state .held s c ≡ at (latest-write (plan .arrays) (k .history) c)
+  latest h s c e = e ∙ ap at (tracked (carried h) .latest c)
+
+  reads : (k : Config) → Run (expansion plan) cs k → (r : ℕ) (s : Side) (x : Cells) (b : Block) → k .left ≡ act r (read s x) b →
+      (c : ℕ) → c < cells (plan .arrays) → within (plan .arrays) x c ≡ true → k .state .held s c ≡ at (latest-write (plan .arrays) (k .history) c)
+  reads k h r s x b e c i w =
+      let m = all-met (plan .arrays) (read s x) (k .state) (met-now h r (read s x) b e) c i in
+      latest h s c (equal-stamp (k .state .held s c) (k .state .latest c) (rw w at m))
+
+  current : (k : Config) → Run (expansion plan) cs k → (c : ℕ) → c < cells (plan .arrays) →
+      (s : Side) × (k .state .held s c ≡ at (latest-write (plan .arrays) (k .history) c))
+  current k h c i = let s = coherent plan cs ok c i (follows plan cs ok h .stages) .current in (s .0, latest h (s .0) c (s .1))
+
+  moved : {k : Config} → Finished plan cs (k .choices) (k .history) → Moves plan cs k
+  moved f = record {
+    passes = f .called;
+    calls = walked plan cs (f .stages);
+    only = λ unused ps w. walk-same (plan .passes) w (walked plan cs (f .stages)) .1;
+    made = f .made;
+    declared = declares-all plan cs (f .stages);
+    executed = asks-all plan cs ok (f .stages);
+    intervals = λ a. moves-once a plan cs ok (f .stages);
+  }
+
+pub demand3 : (plan : DeclaredPlan) → Accepts plan → (cs : List Bool) → Demand3 plan cs
+demand3 plan ok cs = record {
+  unstuck = unstuck plan cs ok;
+  reads = reads plan cs ok;
+  current = current plan cs ok;
+  moved = λ k e. moved plan cs ok (at-end plan cs ok e);
+}

@@ -1,0 +1,80 @@
+-- The test `always-writes` of one cell says exactly that every way through a block writes it.
+use Prim.Native.Nat.{ℕ}
+use mathlib.Core.Path.{_≡_, refl, sym, _∙_}
+use mathlib.Core.Logic.{_⊎_, inl, inr, _↔_}
+use mathlib.Core.List.{List, [], _∷_, _++_}
+use mathlib.Core.Bool.{Bool, true, false, cond, _&&_, _||_, false≢true, true≢false}
+use Rattle.model.specs.Lists.{any}
+use Rattle.model.specs.Sides.{Side, Arrays}
+use Rattle.model.specs.Effects.{Action}
+use Rattle.model.specs.Blocks.{Block, act, branch, loop}
+use Rattle.model.specs.Judging.{Way, writes-cell, always-writes}
+use Rattle.model.proofs.Booleans.{or-out, or-left, or-right, or-none, and-out, and-none, any-append}
+
+module _ (arrays : Arrays) (s : Side) (c : ℕ) where
+  abbrev writes : Action → Bool
+  writes = writes-cell arrays s c
+
+  abbrev always : Block → Bool
+  always = always-writes arrays s c
+
+  arm : (z : Bool) (x y : Block) → always x ≡ true → always y ≡ true → always (cond z x y) ≡ true
+  arm true x y e f = e
+  arm false x y e f = f
+
+  way-writes : {b : Block} {cs ds : List Bool} {w : List Action} → Way b cs ds w → always b ≡ true → any writes w ≡ true
+  way-writes Way.done e = absurd (false≢true e)
+  way-writes (Way.act {x = x} {b} {w = w} h) e = go (λ f. way-writes h f) (or-out (writes x) (always b) e)
+    where
+      go : (always b ≡ true → any writes w ≡ true) → (writes x ≡ true) ⊎ (always b ≡ true) → (writes x || any writes w) ≡ true
+      go ih (inl f) = or-left (writes x) (any writes w) f
+      go ih (inr f) = or-right (writes x) (any writes w) (ih f)
+  way-writes (Way.branch {x = x} {y} {b} {c = z} {v = v} {w} h k) e = rw (any-append writes v w) (go (λ f. way-writes h f) (λ f. way-writes k f) (or-out _ (always b) e))
+    where
+      go : (always (cond z x y) ≡ true → any writes v ≡ true) → (always b ≡ true → any writes w ≡ true) →
+          ((always x && always y) ≡ true) ⊎ (always b ≡ true) → (any writes v || any writes w) ≡ true
+      go ih jh (inl f) = let g = and-out (always x) (always y) f in or-left (any writes v) (any writes w) (ih (arm z x y (g .0) (g .1)))
+      go ih jh (inr f) = or-right (any writes v) (any writes w) (jh f)
+  way-writes (Way.leave h) e = way-writes h e
+  way-writes (Way.turn {v = v} {w} h k) e = rw (any-append writes v w) (or-right (any writes v) (any writes w) (way-writes k e))
+
+  -- a way to the choices ds that does not write the cell
+  record Unwritten (b : Block) (ds : List Bool) : Type 0 where
+    choices : List Bool
+    records : List Action
+    way : Way b choices ds records
+    none : any writes records ≡ false
+
+  unwritten : (b : Block) (ds : List Bool) → always b ≡ false → Unwritten b ds
+  unwritten Block.done ds e = record { choices = ds; records = []; way = Way.done; none = refl }
+  unwritten (act r x b) ds e = let f = or-none (writes x) (always b) e in go (f .0) (unwritten b ds (f .1))
+    where
+      go : writes x ≡ false → Unwritten b ds → Unwritten (act r x b) ds
+      go f i = record { choices = i .choices; records = x ∷ i .records; way = Way.act (i .way); none = rw f (i .none) }
+  unwritten (branch r x y b) ds e =
+      let f = or-none (always x && always y) (always b) e in
+      go (unwritten x) (unwritten y) (unwritten b ds (f .1)) (and-none (always x) (always y) (f .0))
+    where
+      join : (z : Bool) (i : Unwritten b ds) → Unwritten (cond z x y) (i .choices) → Unwritten (branch r x y b) ds
+      join z i j = record {
+        choices = z ∷ j .choices;
+        records = j .records ++ i .records;
+        way = Way.branch (j .way) (i .way);
+        none = rw (any-append writes (j .records) (i .records), j .none) (i .none);
+      }
+
+      go : ((ds : List Bool) → always x ≡ false → Unwritten x ds) → ((ds : List Bool) → always y ≡ false → Unwritten y ds) →
+          Unwritten b ds → (always x ≡ false) ⊎ (always y ≡ false) → Unwritten (branch r x y b) ds
+      go jx jy i (inl f) = join true i (jx (i .choices) f)
+      go jx jy i (inr f) = join false i (jy (i .choices) f)
+  unwritten (loop r x b) ds e =
+      let i = unwritten b ds e in
+      record { choices = false ∷ i .choices; records = i .records; way = Way.leave (i .way); none = i .none }
+
+  pub always-written : (b : Block) →
+      (always-writes arrays s c b ≡ true) ↔ ((cs ds : List Bool) (w : List Action) → Way b cs ds w → any (writes-cell arrays s c) w ≡ true)
+  always-written b = (λ e cs ds w h. way-writes h e, λ f. go f (always b) refl)
+    where
+      go : ((cs ds : List Bool) (w : List Action) → Way b cs ds w → any writes w ≡ true) → (z : Bool) → always b ≡ z → always b ≡ true
+      go f true e = e
+      go f false e = let i = unwritten b [] e in absurd (true≢false (sym (f (i .choices) [] (i .records) (i .way)) ∙ i .none))
