@@ -1,0 +1,197 @@
+-- The plan that a file is, for those who walk its records: the block of the records r up to `end`, and the part of body 0, record by record.
+use mathlib.Core.Path.{_≡_, refl, sym, _∙_}
+use mathlib.Core.Bool.{cond}
+use mathlib.Core.List.{List}
+use Prim.Native.Nat.{ℕ, zero, suc, _+_, _≤_, _<_}
+use native.Mathlib.Decide.{decLt}
+use native.Mathlib.Nat.{add-zero, zero-add}
+use native.Mathlib.Omega.{arith}
+use lib.Dec.{ltb, eqb}
+use borrow.Author.Tests.{lt-ltb, le-ltb, eq-eqb, ne-eqb}
+use Rattle.model.specs.Blocks.{Block}
+use Rattle.model.specs.Judging.{Body0}
+use Rattle.format.specs.declared.Fields.{Fields}
+use Rattle.format.specs.Bytes.{kind-of, body-count, records-in, declarations-in, sizes-of, first-record, record-count, fields-at}
+use Rattle.format.specs.Opening.{allowed, first-arm, second-arm}
+use Rattle.format.specs.Plans.{action-of, block-of, body0-of, pass-at, plan-of, declared-plan-of}
+use Rattle.format.specs.Inner.Walks.{Good, Walkable, block-between, body0-between}
+use Rattle.format.proofs.Laws.Ranges.{of-range, out-of-range}
+use Rattle.format.proofs.Laws.Tables.{first-zero, next-record}
+use Rattle.format.proofs.Walking.{Facts, good-parts, steps}
+
+-- what is made of the records r up to `end`: of a branch, a loop and any other record with what is made of its arms and of the rest
+module _ {T : Type 0} (done : T) (branch : ℕ → T → T → T → T) (loop : ℕ → T → T → T) (leaf : ℕ → T → T) (f : List ℕ) where
+  made : ℕ → ℕ → ℕ → T
+  made zero r end = done
+  made (suc n) r end =
+      let second = r + 1 + first-arm (fields-at f r) in
+      let next = second + second-arm (fields-at f r) in
+      cond (ltb r end)
+      (cond (eqb (fields-at f r .kind) 6) (branch r (made n (r + 1) second) (made n second next) (made n next end))
+      (cond (eqb (fields-at f r .kind) 7) (loop r (made n (r + 1) second) (made n next end))
+      (leaf r (made n next end))))
+      done
+
+  made-end : (n r end : ℕ) → end ≤ r → made n r end ≡ done
+  unfolding made
+  made-end zero r end h = refl
+  made-end (suc n) r end h = rw (le-ltb r end h)
+
+  -- any fuel that is at least the number of records makes the same
+  made-fuel : (n m r end : ℕ) → Walkable f r end → end ≤ r + n → end ≤ r + m → made n r end ≡ made m r end
+  unfolding made
+  made-fuel zero m r end w k l = sym (made-end m r end (omega arith))
+  made-fuel (suc n) zero r end w k l = made-end (suc n) r end (omega arith)
+  made-fuel (suc n) (suc m) r end w k l = elim (decLt r end) [
+    | yes h ↦ let s = steps f r end h w (fields-at f r) refl in rw (made-fuel n m _ _ (s .one) (omega (arith, s .inside)) (omega (arith, s .inside)), made-fuel n m _ _ (s .two) (omega (arith, s .inside)) (omega (arith, s .inside)), made-fuel n m _ _ (s .rest) (omega (arith, s .inside)) (omega (arith, s .inside)))
+    | no h ↦ made-end (suc n) r end (omega arith) ∙ sym (made-end (suc m) r end (omega arith))
+  ]
+
+  module _ (r end : ℕ) (h : r < end) (w : Walkable f r end) where
+    abbrev second : ℕ
+    second = r + 1 + first-arm (fields-at f r)
+
+    abbrev next : ℕ
+    next = second + second-arm (fields-at f r)
+
+    one-fuel : (n : ℕ) → end ≤ r + suc n → made n (r + 1) second ≡ made second (r + 1) second
+    one-fuel n l = let s = steps f r end h w (fields-at f r) refl in made-fuel n second (r + 1) second (s .one) (omega (arith, s .inside)) (omega arith)
+
+    two-fuel : (n : ℕ) → end ≤ r + suc n → made n second next ≡ made next second next
+    two-fuel n l = let s = steps f r end h w (fields-at f r) refl in made-fuel n next second next (s .two) (omega (arith, s .inside)) (omega arith)
+
+    rest-fuel : (n : ℕ) → end ≤ r + suc n → made n next end ≡ made end next end
+    rest-fuel n l = let s = steps f r end h w (fields-at f r) refl in made-fuel n end next end (s .rest) (omega (arith, s .inside)) (omega arith)
+
+    made-branch : (n : ℕ) → end ≤ r + n → fields-at f r .kind ≡ 6 → made n r end ≡ branch r (made second (r + 1) second) (made next second next) (made end next end)
+    unfolding made
+    made-branch zero l k = absurd (omega arith)
+    made-branch (suc n) l k = rw (lt-ltb r end h, eq-eqb (fields-at f r .kind) 6 k, one-fuel n l, two-fuel n l, rest-fuel n l)
+
+    made-loop : (n : ℕ) → end ≤ r + n → fields-at f r .kind ≡ 7 → made n r end ≡ loop r (made second (r + 1) second) (made end next end)
+    unfolding made
+    made-loop zero l k = absurd (omega arith)
+    made-loop (suc n) l k = rw (lt-ltb r end h, ne-eqb (fields-at f r .kind) 6 (λ z. omega arith), eq-eqb (fields-at f r .kind) 7 k, one-fuel n l, rest-fuel n l)
+
+    made-leaf : (n : ℕ) → end ≤ r + n → (fields-at f r .kind ≡ 6 → ⊥) → (fields-at f r .kind ≡ 7 → ⊥) → made n r end ≡ leaf r (made end next end)
+    unfolding made
+    made-leaf zero l j k = absurd (omega arith)
+    made-leaf (suc n) l j k = rw (lt-ltb r end h, ne-eqb (fields-at f r .kind) 6 j, ne-eqb (fields-at f r .kind) 7 k, rest-fuel n l)
+
+-- the block of a plain body or a pass
+module _ (f : List ℕ) where
+  block-leaf : ℕ → Block → Block
+  block-leaf r t = Block.act r (action-of (fields-at f r)) t
+
+  block-made : (n r end : ℕ) → block-of n (fields-at f) r end ≡ made Block.done Block.branch Block.loop block-leaf f n r end
+  unfolding block-of made block-leaf
+  block-made zero r end = refl
+  block-made (suc n) r end = simp (block-made n)
+
+  between-made : (r end : ℕ) → block-between f r end ≡ made Block.done Block.branch Block.loop block-leaf f end r end
+  unfolding block-between
+  between-made r end = block-made end r end
+
+  pub block-any : (fuel r end : ℕ) → Walkable f r end → end ≤ r + fuel → block-of fuel (fields-at f) r end ≡ block-between f r end
+  block-any fuel r end w l = block-made fuel r end ∙ made-fuel _ _ _ _ f fuel end r end w l (omega arith) ∙ sym (between-made r end)
+
+  pub block-none : (r end : ℕ) → end ≤ r → block-between f r end ≡ Block.done
+  block-none r end l = between-made r end ∙ made-end _ _ _ _ f end r end l
+
+  module _ (r end : ℕ) (h : r < end) (w : Walkable f r end) (x : Fields) (e : x ≡ fields-at f r) where
+    pub block-branch : x .kind ≡ 6 → block-between f r end ≡ Block.branch r (block-between f (r + 1) (r + 1 + first-arm x)) (block-between f (r + 1 + first-arm x) (r + 1 + first-arm x + second-arm x)) (block-between f (r + 1 + first-arm x + second-arm x) end)
+    block-branch k = rw e (simp between-made (made-branch _ _ _ _ f r end h w end (omega arith) (rw e at k)))
+
+    pub block-loop : x .kind ≡ 7 → block-between f r end ≡ Block.loop r (block-between f (r + 1) (r + 1 + first-arm x)) (block-between f (r + 1 + first-arm x + second-arm x) end)
+    block-loop k = rw e (simp between-made (made-loop _ _ _ _ f r end h w end (omega arith) (rw e at k)))
+
+    pub block-act : (x .kind ≡ 6 → ⊥) → (x .kind ≡ 7 → ⊥) → block-between f r end ≡ Block.act r (action-of x) (block-between f (r + 1 + first-arm x + second-arm x) end)
+    unfolding block-leaf
+    block-act j k = rw e (simp between-made (made-leaf _ _ _ _ f r end h w end (omega arith) (rw e at j) (rw e at k)))
+
+-- the part of body 0 of a declared plan
+module _ (f : List ℕ) where
+  call-leaf : ℕ → Body0 → Body0
+  call-leaf r t = Body0.call (fields-at f r .p) t
+
+  body0-made : (n r end : ℕ) → body0-of n (fields-at f) r end ≡ made Body0.done (λ r. Body0.branch) (λ r. Body0.loop) call-leaf f n r end
+  unfolding body0-of made call-leaf
+  body0-made zero r end = refl
+  body0-made (suc n) r end = simp (body0-made n)
+
+  between0-made : (r end : ℕ) → body0-between f r end ≡ made Body0.done (λ r. Body0.branch) (λ r. Body0.loop) call-leaf f end r end
+  unfolding body0-between
+  between0-made r end = body0-made end r end
+
+  pub body0-none : (r end : ℕ) → end ≤ r → body0-between f r end ≡ Body0.done
+  body0-none r end l = between0-made r end ∙ made-end _ _ _ _ f end r end l
+
+  module _ (r end : ℕ) (h : r < end) (w : Walkable f r end) (x : Fields) (e : x ≡ fields-at f r) where
+    pub body0-branch : x .kind ≡ 6 → body0-between f r end ≡ Body0.branch (body0-between f (r + 1) (r + 1 + first-arm x)) (body0-between f (r + 1 + first-arm x) (r + 1 + first-arm x + second-arm x)) (body0-between f (r + 1 + first-arm x + second-arm x) end)
+    body0-branch k = rw e (simp between0-made (made-branch _ _ _ _ f r end h w end (omega arith) (rw e at k)))
+
+    pub body0-loop : x .kind ≡ 7 → body0-between f r end ≡ Body0.loop (body0-between f (r + 1) (r + 1 + first-arm x)) (body0-between f (r + 1 + first-arm x + second-arm x) end)
+    body0-loop k = rw e (simp between0-made (made-loop _ _ _ _ f r end h w end (omega arith) (rw e at k)))
+
+    pub body0-call : (x .kind ≡ 6 → ⊥) → (x .kind ≡ 7 → ⊥) → body0-between f r end ≡ Body0.call (x .p) (body0-between f (r + 1 + first-arm x + second-arm x) end)
+    unfolding call-leaf
+    body0-call j k = rw e (simp between0-made (made-leaf _ _ _ _ f r end h w end (omega arith) (rw e at j) (rw e at k)))
+
+-- a record that is neither branch nor loop has no arms
+pub no-arms : (x : Fields) → (x .kind ≡ 6 → ⊥) → (x .kind ≡ 7 → ⊥) → (first-arm x ≡ 0) × (second-arm x ≡ 0)
+unfolding first-arm second-arm
+no-arms x j k = (rw (out-of-range 6 7 (x .kind) (λ u v. omega arith)), rw (ne-eqb (x .kind) 6 j))
+
+-- the bodies of a file that opens, as walks
+module _ (f : List ℕ) (w : Facts f) where
+  -- the body of a plain plan
+  pub plain-walk : kind-of f ≡ 2 → Walkable f 0 (record-count f)
+  plain-walk k =
+      let one : body-count f ≡ 1 = w .bounds .header .plain k in
+      record { body = 0; depth = 0; good = rw one (rw (first-zero (sizes-of f)) at (w .good 0 (omega arith))) }
+
+  pub plain-body : plan-of f .body ≡ block-between f 0 (record-count f)
+  unfolding plan-of block-between
+  plain-body = refl
+
+  -- body 0 of a declared plan
+  pub body0-walk : Walkable f 0 (records-in f 0)
+  body0-walk =
+      let z = first-zero (sizes-of f) in
+      let n : first-record f 1 ≡ records-in f 0 = next-record f 0 (omega (arith, w .bounds .header .bodies)) ∙ rw z (zero-add (records-in f 0)) in
+      record { body = 0; depth = 0; good = rw (z, n) at (w .good 0 (omega (arith, w .bounds .header .bodies))) }
+
+  pub body0-body : declared-plan-of f .body0 ≡ body0-between f 0 (records-in f 0)
+  unfolding declared-plan-of body0-between
+  body0-body = refl
+
+  -- pass b: its declarations, and then its other records
+  module _ (k : kind-of f ≡ 1) (b : ℕ) (p : 1 ≤ b) (l : b < body-count f) where
+    pass-end : first-record f (suc b) ≡ first-record f b + records-in f b
+    pass-end = next-record f b l
+
+    declaration : (r : ℕ) → r < first-record f b + declarations-in f b → Good f b 0 r (first-record f (suc b)) → (16 ≤ fields-at f r .kind) × (fields-at f r .kind ≤ 18)
+    unfolding allowed
+    declaration r d g =
+        let h : r < first-record f (suc b) = omega (arith, pass-end, w .bounds .declared b l) in
+        of-range 16 18 _ (rw (ne-eqb (kind-of f) 2 (λ z. omega arith), ne-eqb b 0 (λ z. omega arith), lt-ltb r _ d) at (good-parts f b 0 r _ h g .tests .allows))
+
+    pub pass-good : (i : ℕ) → i ≤ declarations-in f b → Good f b 0 (first-record f b + i) (first-record f (suc b))
+    pass-good zero h = rw add-zero (w .good b l)
+    pass-good (suc i) h =
+        let r = first-record f b + i in
+        let g = pass-good i (omega arith) in
+        let d = declaration r (omega arith) g in
+        let a = no-arms (fields-at f r) (λ z. omega arith) (λ z. omega arith) in
+        let n : r + 1 + first-arm (fields-at f r) + second-arm (fields-at f r) ≡ first-record f b + suc i = omega (arith, a) in
+        rw n at (good-parts f b 0 r _ (omega (arith, pass-end, w .bounds .declared b l)) g .rest)
+
+    pub pass-declaration : (i : ℕ) → i < declarations-in f b → (16 ≤ fields-at f (first-record f b + i) .kind) × (fields-at f (first-record f b + i) .kind ≤ 18)
+    pass-declaration i h = declaration (first-record f b + i) (omega arith) (pass-good i (omega arith))
+
+    pub pass-walk : Walkable f (first-record f b + declarations-in f b) (first-record f b + records-in f b)
+    pass-walk = record { body = b; depth = 0; good = rw pass-end at (pass-good (declarations-in f b) (omega arith)) }
+
+    pub pass-body : pass-at f b .body ≡ block-between f (first-record f b + declarations-in f b) (first-record f b + records-in f b)
+    unfolding pass-at
+    pass-body = block-any f (records-in f b) _ _ pass-walk (omega arith)

@@ -1,0 +1,104 @@
+-- What those who walk a file that opens cite: what opening found, the file's bounds, and the parts of a block whose records pass their tests.
+use mathlib.Core.Path.{_≡_, ap, sym, _∙_}
+use mathlib.Core.Bool.{cond, true}
+use mathlib.Core.List.{List}
+use Prim.Native.Nat.{ℕ, zero, suc, _+_, _≤_, _<_}
+use native.Mathlib.Omega.{arith}
+use lib.Dec.{ltb, leb}
+use lib.ListN.{getD}
+use borrow.Author.Tests.{lt-ltb, le-leb}
+use Rattle.model.specs.declared.Verdict.the-variants.{Accepted}
+use Rattle.model.specs.Sides.{first-of}
+use Rattle.format.specs.declared.Fields.{Fields}
+use Rattle.format.specs.declared.Opened.{Opened}
+use Rattle.format.specs.Rows.{first}
+use Rattle.format.specs.Bytes.{array-count, body-count, arrays-of, records-in, declarations-in, first-record, fields-at}
+use Rattle.format.specs.Opening.{fields-fit, first-arm, second-arm, block-rows, record-rows, records-rows, opening}
+use Rattle.format.specs.Opened.{found, found-by, opened}
+use Rattle.format.specs.Inner.Walks.{Good, Walkable}
+use Rattle.format.proofs.Laws.Rows.{passed, each-passed}
+use Rattle.format.proofs.Laws.Tables.{getD-table, next-record}
+use Rattle.format.proofs.Laws.Records.{Tests, tests-of}
+use Rattle.format.proofs.Laws.Places.{answer, open-parts}
+use Rattle.format.proofs.Laws.Bounds.{Bounds, bounds-of}
+
+-- what `open` gave
+module _ (f : List ℕ) (o : Opened) (e : o ≡ opened f) where
+  pub verdict-is : o .verdict ≡ opening f
+  unfolding opened
+  verdict-is = ap (λ x. x .verdict) e ∙ answer f (opening f)
+
+  pub found-is : o .verdict ≡ Accepted → o ≡ found f
+  unfolding opened
+  found-is a = e ∙ ap (found-by f) (sym verdict-is ∙ a)
+
+-- what was found, entry by entry
+module _ (f : List ℕ) (o : Opened) (e : o ≡ found f) (w : Bounds f) where
+  pub array-start : (a : ℕ) → a ≤ array-count f → getD (o .«array_starts») a 0 ≡ first-of (arrays-of f) a
+  array-start a h = rw (e, getD-table (λ k. cond (leb k (array-count f)) (first-of (arrays-of f) k) 0) 33 a 0 (omega (arith, w .header .arrays)), le-leb a (array-count f) h)
+
+  pub body-start : (b : ℕ) → b ≤ body-count f → getD (o .«body_starts») b 0 ≡ first-record f b
+  body-start b h = rw (e, getD-table (λ k. cond (leb k (body-count f)) (first-record f k) 0) 33 b 0 (omega (arith, w .header .bodies)), le-leb b (body-count f) h)
+
+  pub declarations-at : (b : ℕ) → b < body-count f → getD (o .declarations) b 0 ≡ declarations-in f b
+  declarations-at b h = rw (e, getD-table (λ k. cond (ltb k (body-count f)) (declarations-in f k) 0) 32 b 0 (omega (arith, w .header .bodies)), lt-ltb b (body-count f) h)
+
+-- what holds of a file that opens
+pub record Facts (f : List ℕ) : Type 0 where
+  pub bounds : Bounds f
+  pub good : (b : ℕ) → b < body-count f → Good f b 0 (first-record f b) (first-record f (suc b))
+
+module _ (f : List ℕ) where
+  body-good : (b : ℕ) → b < body-count f → Accepted ≡ first (records-rows f b) → Good f b 0 (first-record f b) (first-record f (suc b))
+  unfolding records-rows
+  body-good b l e = record { fuel = records-in f b; enough = omega (arith, next-record f b l); passes = e }
+
+  pub opened-facts : Accepted ≡ opening f → Facts f
+  opened-facts e =
+      let p = open-parts f e in
+      record { bounds = bounds-of f (p .0); good = λ b l. body-good b l (each-passed (records-rows f) (body-count f) b (p .1) l) }
+
+-- the first record of a good block: its tests, and what comes after it is good again
+pub record Parts (f : List ℕ) (b depth r end : ℕ) : Type 0 where
+  pub tests : Tests f b depth r end
+  pub one : Good f b (depth + 1) (r + 1) (r + 1 + first-arm (fields-at f r))
+  pub two : Good f b (depth + 1) (r + 1 + first-arm (fields-at f r)) (r + 1 + first-arm (fields-at f r) + second-arm (fields-at f r))
+  pub rest : Good f b depth (r + 1 + first-arm (fields-at f r) + second-arm (fields-at f r)) end
+
+module _ (f : List ℕ) (b depth r end : ℕ) (h : r < end) where
+  parts : (fuel : ℕ) → end ≤ r + fuel → Accepted ≡ first (block-rows fuel f b depth r end) → Parts f b depth r end
+  unfolding block-rows
+  parts zero l e = absurd (omega arith)
+  parts (suc n) l e =
+      let second = r + 1 + first-arm (fields-at f r) in
+      let p = passed (record-rows f b depth end r) _ (rw (lt-ltb _ _ h) at e) in
+      let q = passed (block-rows n f b (depth + 1) (r + 1) second) _ (p .1) in
+      let s = passed (block-rows n f b (depth + 1) second (second + second-arm (fields-at f r))) _ (q .1) in
+      let t = tests-of f b depth r end (p .0) in
+      record {
+        tests = t;
+        one = record { fuel = n; enough = omega (arith, t .inside); passes = q .0 };
+        two = record { fuel = n; enough = omega (arith, t .inside); passes = s .0 };
+        rest = record { fuel = n; enough = omega (arith, t .inside); passes = s .1 };
+      }
+
+  pub good-parts : Good f b depth r end → Parts f b depth r end
+  good-parts g = parts (g .fuel) (g .enough) (g .passes)
+
+-- the same whatever the body and the depth, for a walker that has read the record's fields x
+pub record Steps (f : List ℕ) (r end : ℕ) (x : Fields) : Type 0 where
+  pub fits : fields-fit f x ≡ true
+  pub inside : r + 1 + first-arm x + second-arm x ≤ end
+  pub one : Walkable f (r + 1) (r + 1 + first-arm x)
+  pub two : Walkable f (r + 1 + first-arm x) (r + 1 + first-arm x + second-arm x)
+  pub rest : Walkable f (r + 1 + first-arm x + second-arm x) end
+
+pub steps : (f : List ℕ) (r end : ℕ) → r < end → Walkable f r end → (x : Fields) → x ≡ fields-at f r → Steps f r end x
+steps f r end h w x e = rw e (let p = good-parts f (w .body) (w .depth) r end h (w .good) in
+    record {
+      fits = p .tests .fits;
+      inside = p .tests .inside;
+      one = record { body = w .body; depth = w .depth + 1; good = p .one };
+      two = record { body = w .body; depth = w .depth + 1; good = p .two };
+      rest = record { body = w .body; depth = w .depth; good = p .rest };
+    })

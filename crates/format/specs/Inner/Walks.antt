@@ -1,0 +1,30 @@
+-- No promise of an entry point rests on this text: what those who walk the records of a file that opens ask of it.
+use mathlib.Core.Path.{_≡_}
+use mathlib.Core.List.{List}
+use Prim.Native.Nat.{ℕ, _+_, _≤_}
+use Rattle.model.specs.declared.Verdict.the-variants.{Accepted}
+use Rattle.model.specs.Blocks.{Block}
+use Rattle.model.specs.Judging.{Body0}
+use Rattle.format.specs.Rows.{first}
+use Rattle.format.specs.Bytes.{fields-at}
+use Rattle.format.specs.Opening.{block-rows}
+use Rattle.format.specs.Plans.{block-of, body0-of}
+
+-- the records r up to `end` of body b, inside `depth` branches and loops, all pass their tests
+pub record Good (f : List ℕ) (b depth r end : ℕ) : Type 0 where
+  pub fuel : ℕ
+  pub enough : end ≤ r + fuel
+  pub passes : Accepted ≡ first (block-rows fuel f b depth r end)
+
+-- the same, whatever their body and their depth
+pub record Walkable (f : List ℕ) (r end : ℕ) : Type 0 where
+  pub body : ℕ
+  pub depth : ℕ
+  pub good : Good f body depth r end
+
+-- the block of the records r up to `end`, and the part of body 0
+unfoldable pub block-between : List ℕ → ℕ → ℕ → Block
+block-between f r end = block-of end (fields-at f) r end
+
+unfoldable pub body0-between : List ℕ → ℕ → ℕ → Body0
+body0-between f r end = body0-of end (fields-at f) r end

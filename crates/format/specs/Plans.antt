@@ -1,0 +1,77 @@
+-- The plan that a file is, for a file that opens: from its records to the blocks of `model`.
+use Prim.Native.Nat.{ℕ, zero, suc, _+_, _-_}
+use mathlib.Core.Bool.{cond}
+use mathlib.Core.List.{List}
+use lib.Dec.{ltb, eqb}
+use Rattle.model.specs.Sides.{Side, host, card, Cells}
+use Rattle.model.specs.Effects.{Action, read, write, copy, need, mark}
+use Rattle.model.specs.Blocks.{Block, Plan}
+use Rattle.model.specs.Judging.{R, W, RW, Declaration, Pass, Body0, DeclaredPlan}
+use Rattle.format.specs.declared.Fields.{Fields}
+use Rattle.format.specs.Bytes.{body-count, table, arrays-of, records-in, declarations-in, first-record, record-count, fields-at}
+use Rattle.format.specs.Opening.{first-arm, second-arm}
+
+-- "Side 0 is the host, side 1 the card."
+abbrev pub side-of : ℕ → Side
+side-of s = cond (eqb s 0) host card
+
+-- "1 read, 2 write, 3 copy: cells P to Q − 1 of the array", "4 need, 5 mark: side and array"
+unfoldable pub action-of : Fields → Action
+action-of x =
+    let s = side-of (x .side) in
+    let these : Cells = record { array = x .array; p = x .p; q = x .q } in
+    cond (eqb (x .kind) 1) (read s these)
+    (cond (eqb (x .kind) 2) (write s these)
+    (cond (eqb (x .kind) 3) (copy s these)
+    (cond (eqb (x .kind) 4) (need s (x .array))
+    (mark s (x .array)))))
+
+-- "16 R, 17 W, 18 RW: side and array"
+unfoldable pub declaration-of : Fields → Declaration
+declaration-of x = record { mode = cond (eqb (x .kind) 16) R (cond (eqb (x .kind) 17) W RW); side = side-of (x .side); array = x .array }
+
+-- the records r up to `end` of a plain body or a pass, where record r has the fields `g r` (`fuel` is at least the number of records)
+unfoldable pub block-of : ℕ → (ℕ → Fields) → ℕ → ℕ → Block
+block-of zero g r end = Block.done
+block-of (suc fuel) g r end =
+    let second = r + 1 + first-arm (g r) in
+    let next = second + second-arm (g r) in
+    cond (ltb r end)
+    (cond (eqb (g r .kind) 6) (Block.branch r (block-of fuel g (r + 1) second) (block-of fuel g second next) (block-of fuel g next end))
+    (cond (eqb (g r .kind) 7) (Block.loop r (block-of fuel g (r + 1) second) (block-of fuel g next end))
+    (Block.act r (action-of (g r)) (block-of fuel g next end))))
+    Block.done
+
+-- the same of body 0 of a declared plan: branches, loops and calls
+unfoldable pub body0-of : ℕ → (ℕ → Fields) → ℕ → ℕ → Body0
+body0-of zero g r end = Body0.done
+body0-of (suc fuel) g r end =
+    let second = r + 1 + first-arm (g r) in
+    let next = second + second-arm (g r) in
+    cond (ltb r end)
+    (cond (eqb (g r .kind) 6) (Body0.branch (body0-of fuel g (r + 1) second) (body0-of fuel g second next) (body0-of fuel g next end))
+    (cond (eqb (g r .kind) 7) (Body0.loop (body0-of fuel g (r + 1) second) (body0-of fuel g next end))
+    (Body0.call (g r .p) (body0-of fuel g next end))))
+    Body0.done
+
+-- body b as a pass: "declarations first, as many as the contents say", then its other records
+unfoldable pub pass-at : List ℕ → ℕ → Pass
+pass-at f b =
+    let r = first-record f b in
+    let n = declarations-in f b in
+    record {
+      declarations = table (λ i. declaration-of (fields-at f (r + i))) n;
+      body = block-of (records-in f b) (fields-at f) (r + n) (r + records-in f b);
+    }
+
+-- the plain plan of a file of kind 2
+unfoldable pub plan-of : List ℕ → Plan
+plan-of f = record { arrays = arrays-of f; body = block-of (record-count f) (fields-at f) 0 (record-count f) }
+
+-- the declared plan of a file of kind 1
+unfoldable pub declared-plan-of : List ℕ → DeclaredPlan
+declared-plan-of f = record {
+  arrays = arrays-of f;
+  body0 = body0-of (records-in f 0) (fields-at f) 0 (records-in f 0);
+  passes = table (λ b. pass-at f (suc b)) (body-count f - 1);
+}

@@ -1,0 +1,114 @@
+// The plan file: opening it, and the view of a body.
+ghost use mathlib.Core.Path.{_≡_};
+ghost use Prim.Native.Nat.{_+_, _≤_};
+ghost use Rattle.format.specs.Opened.{opened};
+ghost use Rattle.format.specs.Views.{body-view-answer, body-view, body-part};
+use contents::nothing_found;
+use contents::outline;
+use model::Verdict;
+use records::all_records;
+
+pub mod bytes;
+mod contents;
+mod records;
+mod sums;
+
+// A record's eight bytes.
+pub struct Fields {
+    pub kind: u8,
+    pub side: u8,
+    pub array: u8,
+    pub zero: u8,
+    pub p: u16,
+    pub q: u16,
+}
+
+// What opening gives: the answer, and what was found in a file that opens.
+pub struct Opened {
+    pub verdict: Verdict,
+    pub kind: u8,
+    pub arrays: u8,
+    pub bodies: u8,
+    pub cells: u16,
+    pub records: u16,
+    pub offset: u16,
+    pub array_starts: [u16; 33],
+    pub body_starts: [u16; 33],
+    pub declarations: [u8; 32],
+}
+
+// Opens a plan file of any bytes.
+pub fn open(plan: &[u8]) -> Opened
+    ensures { λ r. ⌜ r ≡ opened (now (plan .entry)) ⌝ }
+{
+    let o = outline(plan);
+    let front = o.verdict;
+    let Verdict::Accepted = front else {
+        return o;
+    };
+    let tested = all_records(plan);
+    let Verdict::Accepted = tested else {
+        return nothing_found(tested);
+    };
+    o
+}
+
+// An answer with a part of the caller's bytes, where it is accepted: where it begins and its length.
+pub struct Part {
+    pub verdict: Verdict,
+    pub from: u16,
+    pub size: u16,
+}
+
+// A refused part.
+fn no_part(v: Verdict) -> Part
+    ensures { λ r. ⌜ r ≡ record { verdict = v; from = 0; size = 0 } ⌝ }
+{
+    Part {
+        verdict: v,
+        from: 0,
+        size: 0,
+    }
+}
+
+// Where the records of a body stand in the caller's bytes.
+pub fn body_part(plan: &[u8], body: u64) -> Part
+    ensures part { λ r. ⌜ r ≡ body-part (now (plan .entry)) body ⌝ }
+    ensures inside { λ r. do ⌜ r .from + r .size ≤ (← ⟦plan.len()⟧ .entry) ⌝ }
+{
+    let o = open(plan);
+    let v = o.verdict;
+    let Verdict::Accepted = v else {
+        return no_part(v);
+    };
+    if (o.bodies as u64) <= body {
+        return no_part(Verdict::Refused(25, 0));
+    }
+    let b = body as usize;
+    let starts = o.body_starts;
+    let first = starts[b];
+    let next = starts[b + 1];
+    Part {
+        verdict: Verdict::Accepted,
+        from: o.offset + 8 * first,
+        size: 8 * (next - first),
+    }
+}
+
+// The body view's answer: an opening's number, or 25.
+pub fn body_view_answer(plan: &[u8], body: u64) -> Verdict
+    ensures { λ r. ⌜ r ≡ body-view-answer (now (plan .entry)) body ⌝ }
+{
+    let part = body_part(plan, body);
+    part.verdict
+}
+
+// The records of a body, as a part of the caller's bytes; empty where the answer refuses.
+pub fn body_view<'a>(plan: &'a [u8], body: u64) -> &'a [u8]
+    ensures { λ r. ⌜ now r ≡ body-view (now (plan .entry)) body ⌝ }
+{
+    let part = body_part(plan, body);
+    let from = part.from as usize;
+    let end = from + (part.size as usize);
+    &plan[from..end]
+}
