@@ -2,4 +2,8 @@
 pub mod Laws
 pub mod Walking
 pub mod Trees
+-- the file of a plan opens as that plan
+pub mod Files
+pub mod RoundTrip
+pub mod Octets
 pub mod Examples
