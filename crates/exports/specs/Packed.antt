@@ -1,0 +1,19 @@
+-- Answers packed into 64 bits, for callers in C and Rust.
+use Prim.Native.Nat.{ℕ, _+_, _*_, _^_}
+use mathlib.Core.List.{List}
+use Rattle.model.specs.declared.Values.{Values}
+use Rattle.model.specs.Verdicts.{values-of}
+use Rattle.format.specs.Opened.{opened}
+use Rattle.format.specs.Views.{body-part}
+
+-- number in bits 0 to 15, place or record in 16 to 31, cell in 32 to 47, the file's kind (0 if it does not open) in 48 to 55
+abbrev pub packed : ℕ → Values → ℕ
+packed kind v = v .number + 2 ^ 16 * v .place + 2 ^ 32 * v .cell + 2 ^ 48 * kind
+
+-- the answer of `plan_open`: no stop is one of its answers
+unfoldable pub packed-opening : List ℕ → ℕ
+packed-opening f = packed (opened f .kind) (values-of 0 (opened f .verdict))
+
+-- the answer of `plan_body_view`: number in bits 0 to 15, where the body's bytes begin in the file in 16 to 31, how many they are in 32 to 47
+unfoldable pub packed-body-view : List ℕ → ℕ → ℕ
+packed-body-view f b = let p = body-part f b in packed 0 (record { number = values-of 0 (p .verdict) .number; place = p .from; cell = p .size })

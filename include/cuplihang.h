@@ -1,0 +1,17 @@
+/* Cuplihang: plans for two memories. The functions of libexports.a.
+   A slice is a pointer and a length. No function asks anything of its caller but valid memory. */
+#ifndef CUPLIHANG_H
+#define CUPLIHANG_H
+
+#include <stddef.h>
+#include <stdint.h>
+
+/* Opens a plan of any bytes. The answer, packed: number (0 accepted) in bits 0 to 15, place or record in 16 to 31,
+   cell in 32 to 47, the file's kind (0 if it does not open) in 48 to 55. */
+uint64_t plan_open(const uint8_t *plan, size_t plan_length);
+
+/* Where the records of a body stand in the plan: number (0 accepted) in bits 0 to 15, the place of the body's first byte in 16 to 31,
+   the number of its bytes in 32 to 47. */
+uint64_t plan_body_view(const uint8_t *plan, size_t plan_length, uint64_t body);
+
+#endif
