@@ -1,0 +1,180 @@
+//! Safe wrappers over the static library, one function each. A slice passes
+//! as a pointer and a length. This is the only file with `unsafe`.
+
+use std::ops::Range;
+
+/// A packed answer: number (0 accepted) in bits 0–15, place or record in
+/// 16–31, cell in 32–47, the file's kind (0 if not opened) in 48–55.
+#[derive(Clone, Copy, Debug, PartialEq, Eq)]
+pub struct Answer {
+    pub number: u16,
+    pub place: u16,
+    pub cell: u16,
+    pub kind: u8,
+}
+
+impl Answer {
+    fn unpack(packed: u64) -> Answer {
+        // The highest byte carries nothing.
+        assert_eq!(packed >> 56, 0, "stray bits in the answer {packed:#x}");
+        Answer {
+            number: packed as u16,
+            place: (packed >> 16) as u16,
+            cell: (packed >> 32) as u16,
+            kind: (packed >> 48) as u8,
+        }
+    }
+}
+
+// ---- Opening and body view ----
+
+extern "C" {
+    fn plan_open(plan: *const u8, plan_length: usize) -> u64;
+    fn plan_body_view(plan: *const u8, plan_length: usize, body: u64) -> u64;
+}
+
+pub fn open(plan: &[u8]) -> Answer {
+    Answer::unpack(unsafe { plan_open(plan.as_ptr(), plan.len()) })
+}
+
+/// Where the body's bytes stand in the file, or the number that refuses it.
+pub fn body_view(plan: &[u8], body: u64) -> Result<Range<usize>, u16> {
+    let packed = unsafe { plan_body_view(plan.as_ptr(), plan.len(), body) };
+    assert_eq!(packed >> 48, 0, "stray bits in the body view {packed:#x}");
+    let number = packed as u16;
+    let offset = (packed >> 16) as u16 as usize;
+    let length = (packed >> 32) as u16 as usize;
+    if number == 0 {
+        return Ok(offset..offset + length);
+    }
+    // "A refused view is empty".
+    assert_eq!(length, 0, "a refused view is not empty");
+    Err(number)
+}
+
+// ---- The later services, each switched on by its feature ----
+
+#[cfg(feature = "check")]
+mod checking {
+    use super::Answer;
+
+    extern "C" {
+        fn plan_check(plan: *const u8, plan_length: usize) -> u64;
+    }
+
+    pub fn check(plan: &[u8]) -> Answer {
+        Answer::unpack(unsafe { plan_check(plan.as_ptr(), plan.len()) })
+    }
+}
+#[cfg(feature = "check")]
+pub use checking::*;
+
+#[cfg(feature = "judge")]
+mod judging {
+    use super::Answer;
+
+    extern "C" {
+        fn plan_judge(plan: *const u8, plan_length: usize) -> u64;
+        fn plan_expand(plan: *const u8, plan_length: usize, out: *mut u8, out_length: usize) -> u64;
+    }
+
+    pub fn judge(plan: &[u8]) -> Answer {
+        Answer::unpack(unsafe { plan_judge(plan.as_ptr(), plan.len()) })
+    }
+
+    pub fn expand(plan: &[u8], out: &mut [u8]) -> Answer {
+        let packed = unsafe { plan_expand(plan.as_ptr(), plan.len(), out.as_mut_ptr(), out.len()) };
+        Answer::unpack(packed)
+    }
+}
+#[cfg(feature = "judge")]
+pub use judging::*;
+
+#[cfg(feature = "run")]
+mod running {
+    use super::Answer;
+
+    extern "C" {
+        // `tally` points to three numbers, `end` to five; neither has a length.
+        fn plan_run(
+            plan: *const u8,
+            plan_length: usize,
+            host: *mut u64,
+            host_length: usize,
+            card: *mut u64,
+            card_length: usize,
+            latest: *mut u64,
+            latest_length: usize,
+            choices: *const u8,
+            choices_length: usize,
+            tally: *mut u64,
+            end: *mut u64,
+        ) -> u64;
+        fn plan_memory_view(
+            host: *const u64,
+            host_length: usize,
+            card: *const u64,
+            card_length: usize,
+            latest: *const u64,
+            latest_length: usize,
+            first: u64,
+            end: u64,
+        ) -> u64;
+    }
+
+    /// `tally`: reads, writes, moved. `end`, written at done only: choices
+    /// used, host flags, card flags, arrays current on the host, on the card.
+    pub fn run(
+        plan: &[u8],
+        [host, card, latest]: [&mut [u64]; 3],
+        choices: &[u8],
+        tally: &mut [u64; 3],
+        end: &mut [u64; 5],
+    ) -> Answer {
+        Answer::unpack(unsafe {
+            plan_run(
+                plan.as_ptr(),
+                plan.len(),
+                host.as_mut_ptr(),
+                host.len(),
+                card.as_mut_ptr(),
+                card.len(),
+                latest.as_mut_ptr(),
+                latest.len(),
+                choices.as_ptr(),
+                choices.len(),
+                tally.as_mut_ptr(),
+                end.as_mut_ptr(),
+            )
+        })
+    }
+
+    /// The side whose part it is, or the number that refuses it.
+    pub fn memory_view(
+        host: &[u64],
+        card: &[u64],
+        latest: &[u64],
+        first: u64,
+        end: u64,
+    ) -> Result<usize, u16> {
+        let packed = unsafe {
+            plan_memory_view(
+                host.as_ptr(),
+                host.len(),
+                card.as_ptr(),
+                card.len(),
+                latest.as_ptr(),
+                latest.len(),
+                first,
+                end,
+            )
+        };
+        assert_eq!(packed >> 32, 0, "stray bits in the memory view {packed:#x}");
+        match packed as u16 {
+            0 => Ok((packed >> 16) as usize),
+            number => Err(number),
+        }
+    }
+}
+#[cfg(feature = "run")]
+pub use running::*;

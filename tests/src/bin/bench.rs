@@ -1,0 +1,274 @@
+//! Times of the library beside those of the walker: same process, same inputs,
+//! release. Usage: `bench [open] [check] [judge] [run]`, all without a word.
+//! Nothing is asserted; the ratio is printed.
+
+use cuplihang_tests::generate::*;
+use cuplihang_tests::walker::{self, Memories, Tally};
+use std::hint::black_box;
+use std::time::{Duration, Instant};
+
+/// The time of one call of each: the best of several rounds, each long enough to
+/// read. The rounds take turns, so that other load falls on all alike.
+fn times<const N: usize>(mut works: [&mut dyn FnMut(); N]) -> [f64; N] {
+    let mut best = [f64::INFINITY; N];
+    for _ in 0..15 {
+        for (work, best) in works.iter_mut().zip(&mut best) {
+            *best = best.min(round(work));
+        }
+    }
+    best
+}
+
+fn round(work: &mut dyn FnMut()) -> f64 {
+    let start = Instant::now();
+    let mut calls = 0;
+    while start.elapsed() < Duration::from_millis(20) {
+        work();
+        calls += 1;
+    }
+    start.elapsed().as_nanos() as f64 / f64::from(calls)
+}
+
+/// What a service may use: an output, memories, choices.
+struct Room {
+    out: Vec<u8>,
+    memories: [Vec<u64>; 3],
+    choices: Vec<u8>,
+}
+
+/// A service on one file.
+type Work = fn(&[u8], &mut Room);
+
+/// Files for one line of the output.
+type Inputs = (&'static str, Vec<Vec<u8>>);
+
+/// A service on all these files, with a room of its own.
+fn on<'a>(files: &'a [Vec<u8>], choices: &[u8], work: Work) -> impl FnMut() + 'a {
+    let memories = std::array::from_fn(|_| vec![0; 4096]);
+    let mut room = Room { out: vec![0; 9000], memories, choices: choices.to_vec() };
+    move || {
+        for file in files {
+            work(black_box(file), &mut room);
+        }
+    }
+}
+
+/// Prints one line: the library's time where it is linked, the walker's, the
+/// ratio. Gives the library's time, else the walker's.
+fn compare(name: &str, files: &[Vec<u8>], choices: &[u8], library: Option<Work>, walker: Work) -> f64 {
+    let mut walk = on(files, choices, walker);
+    let Some(library) = library else {
+        let [theirs] = times([&mut walk]);
+        println!("{name:<48} walker {theirs:>13.0} ns");
+        return theirs;
+    };
+    let [ours, theirs] = times([&mut on(files, choices, library), &mut walk]);
+    println!("{name:<48} library {ours:>13.0} ns  walker {theirs:>13.0} ns  ratio {:.2}", ours / theirs);
+    ours
+}
+
+/// The library's services, as far as they are linked.
+mod library {
+    use super::Work;
+    #[cfg(feature = "archive")]
+    use {cuplihang_tests::archive, std::hint::black_box};
+
+    #[cfg(not(feature = "archive"))]
+    pub const OPEN: Option<Work> = None;
+    #[cfg(feature = "archive")]
+    pub const OPEN: Option<Work> = Some(|file, _| {
+        black_box(archive::open(file));
+    });
+
+    #[cfg(not(feature = "check"))]
+    pub const CHECK: Option<Work> = None;
+    #[cfg(feature = "check")]
+    pub const CHECK: Option<Work> = Some(|file, _| {
+        black_box(archive::check(file));
+    });
+
+    #[cfg(not(feature = "judge"))]
+    pub const JUDGE: Option<Work> = None;
+    #[cfg(feature = "judge")]
+    pub const JUDGE: Option<Work> = Some(|file, _| {
+        black_box(archive::judge(file));
+    });
+
+    #[cfg(not(feature = "judge"))]
+    pub const EXPAND: Option<Work> = None;
+    #[cfg(feature = "judge")]
+    pub const EXPAND: Option<Work> = Some(|file, room| {
+        black_box(archive::expand(file, &mut room.out));
+    });
+
+    #[cfg(not(feature = "run"))]
+    pub const RUN: Option<Work> = None;
+    #[cfg(feature = "run")]
+    pub const RUN: Option<Work> = Some(|file, room| {
+        let [host, card, latest] = &mut room.memories;
+        let (mut tally, mut end) = ([0; 3], [0; 5]);
+        black_box(archive::run(file, [host, card, latest], &room.choices, &mut tally, &mut end));
+    });
+}
+
+fn small_plans(seed: u64, count: usize) -> Vec<Vec<u8>> {
+    let mut rng = Rng::new(seed);
+    let draft = |_| {
+        let shape = Shape::small(&mut rng);
+        encode(&plain(&mut rng, &shape))
+    };
+    (0..count).map(draft).collect()
+}
+
+fn open_inputs() -> Vec<Inputs> {
+    let mut rng = Rng::new(90);
+    let shape = Shape::new(32, 4096, 1024, 8, 20);
+    vec![
+        ("open: small file (case 3)", vec![CASE_3.to_vec()]),
+        ("open: largest plain file", vec![encode(&whole_arrays(128))]),
+        ("open: largest declared file", vec![encode(&accepted(&mut rng, &shape, 32))]),
+        ("open: deepest nesting", vec![encode(&deep_loops(16, 1024))]),
+        ("open: ten thousand small files", small_plans(91, 10_000)),
+    ]
+}
+
+fn bench_open() {
+    for (name, files) in open_inputs() {
+        compare(name, &files, &[], library::OPEN, |file, _| {
+            let _ = black_box(walker::open(file));
+        });
+    }
+}
+
+fn check_inputs() -> Vec<Inputs> {
+    let mut rng = Rng::new(92);
+    let nested = plain(&mut rng, &Shape::new(4, 64, 1024, 16, 30));
+    vec![
+        ("check: largest, all cells told apart", vec![encode(&all_told_apart())]),
+        ("check: largest, nested at random", vec![encode(&nested)]),
+        ("check: ten thousand small plans", small_plans(93, 10_000)),
+    ]
+}
+
+fn bench_check() {
+    let walk: Work = |file, _| {
+        black_box(walker::check(file));
+    };
+    for (name, files) in check_inputs() {
+        compare(name, &files, &[], library::CHECK, walk);
+    }
+    let one = |name, draft: &Draft| compare(name, &[encode(draft)], &[], library::CHECK, walk);
+    let whole = one("check: largest, whole arrays, 4,096 cells", &whole_arrays(128));
+    let small = one("check: the same records over 32 cells", &whole_arrays(1));
+    println!("{:<48} {:.2} times the time", "check: 4,096 cells beside 32", whole / small);
+    let long = one("check: 16 levels of loops, 1,024 records", &deep_loops(16, 1024));
+    let short = one("check: 16 levels of loops, 512 records", &deep_loops(16, 512));
+    let flat = one("check: 1 level of loops, 1,024 records", &deep_loops(1, 1024));
+    println!("{:<48} {:.2} times the time", "check: 1,024 records beside 512", long / short);
+    println!("{:<48} {:.2} times the time", "check: 16 levels beside 1", long / flat);
+}
+
+fn judge_inputs() -> Vec<Inputs> {
+    let mut rng = Rng::new(94);
+    let shape = Shape::new(32, 4096, 1024, 8, 20);
+    let largest = encode(&accepted(&mut rng, &shape, 32));
+    let writing = {
+        let declarations = (0..32).map(|array| declare(17, 1, array)).collect();
+        let writes = (0..990usize).map(|i| write(1, (i % 32) as u8, 0, 128)).collect();
+        encode(&declared_draft(&[128; 32], &[call(1)], &[Pass { declarations, steps: writes }]))
+    };
+    let to_the_limit = encode(&sized(&mut rng, 1024));
+    let small = (0..10_000).map(|_| encode(&accepted_small(&mut rng))).collect();
+    vec![
+        ("largest, 32 bodies", vec![largest]),
+        ("one pass that writes 4,096 cells", vec![writing]),
+        ("expansion of 1,024 records", vec![to_the_limit]),
+        ("expansion far too large", vec![encode(&overflowing(&mut rng, 511))]),
+        ("ten thousand small plans", small),
+    ]
+}
+
+fn bench_judge() {
+    for (name, files) in judge_inputs() {
+        compare(&format!("judge: {name}"), &files, &[], library::JUDGE, |file, _| {
+            black_box(walker::judge(file));
+        });
+        compare(&format!("expand: {name}"), &files, &[], library::EXPAND, |file, room| {
+            black_box(walker::expand(file, &mut room.out));
+        });
+    }
+}
+
+/// Files and one list of choices for all of them.
+fn run_inputs() -> Vec<(Inputs, Vec<u8>)> {
+    let mut rng = Rng::new(95);
+    let mut long = vec![1; 65_535];
+    long.push(0);
+    let mut turns = vec![1; 20];
+    turns.push(0);
+    let mixed =
+        [Step::Loop(vec![write(0, 0, 0, 1), need(1, 1), copy(1, 0, 0, 1), read(1, 0, 0, 1), mark(0, 1)])];
+    let mixed = encode(&Draft::plain(&[1, 1], &mixed));
+    let short = choices(&mut rng, 40, 40);
+    vec![
+        (("run: 65,536 choices, copies of 64 cells", vec![encode(&copying(4, 64))]), long.clone()),
+        (("run: 65,536 choices, records of one cell", vec![mixed]), long),
+        (("run: 20 turns of 1,000 copies of 4,096 cells", vec![encode(&copying(1000, 4096))]), turns),
+        (("run: ten thousand short runs", small_plans(96, 10_000)), short),
+    ]
+}
+
+fn bench_run() {
+    for ((name, files), list) in run_inputs() {
+        compare(name, &files, &list, library::RUN, |file, room| {
+            let [host, card, latest] = &mut room.memories;
+            let mut memories = Memories { sides: [host, card], latest };
+            black_box(walker::run(file, &mut memories, &room.choices, &mut Tally::default()));
+        });
+    }
+    copied_cell();
+}
+
+/// The cost of a copied cell beside that of the same copy in Rust: all cells
+/// compared with latest, then copied.
+fn copied_cell() {
+    const COPIES: usize = 1000;
+    let cells = (COPIES * 4096) as f64;
+    let (mut host, mut card, latest) = (vec![0u64; 4096], vec![0u64; 4096], vec![0u64; 4096]);
+    let mut plain = || {
+        for copy in 0..COPIES {
+            let (from, to) = if copy % 2 == 0 { (&host, &mut card) } else { (&card, &mut host) };
+            assert!(black_box(from) == black_box(&latest));
+            to.copy_from_slice(from);
+        }
+    };
+    let Some(run) = library::RUN else {
+        let [plain] = times([&mut plain]);
+        println!("{:<48} in Rust {:.3} ns", "run: a copied cell", plain / cells);
+        return;
+    };
+    let file = [encode(&copying(COPIES, 4096))];
+    let [ours, plain] = times([&mut on(&file, &[1, 0], run), &mut plain]);
+    let (cell, plain_cell) = (ours / cells, plain / cells);
+    println!(
+        "{:<48} library {cell:>13.3} ns  in Rust {plain_cell:>12.3} ns  ratio {:.2}",
+        "run: a copied cell",
+        ours / plain
+    );
+}
+
+fn main() {
+    let words: Vec<String> = std::env::args().skip(1).collect();
+    let wanted = |word: &str| words.is_empty() || words.iter().any(|given| given == word);
+    let services: [(&str, fn()); 4] =
+        [("open", bench_open), ("check", bench_check), ("judge", bench_judge), ("run", bench_run)];
+    if let Some(unknown) = words.iter().find(|word| services.iter().all(|(name, _)| name != word)) {
+        eprintln!("bench: no service `{unknown}`; there are open, check, judge, run");
+        std::process::exit(2);
+    }
+    for (name, bench) in services {
+        if wanted(name) {
+            bench();
+        }
+    }
+}

@@ -1,0 +1,22 @@
+//! One file a service, each from the words of document 01.
+
+pub mod check;
+pub mod demand;
+pub mod expand;
+pub mod judge;
+pub mod near;
+pub mod open;
+pub mod plan;
+pub mod plancheck;
+pub mod run;
+pub mod verdict;
+pub mod views;
+
+pub use check::check;
+pub use expand::expand;
+pub use judge::judge;
+pub use open::{body_view, open, Refusal};
+pub use plan::{FileKind, Plan, Record};
+pub use run::{run, Memories, RunEnd, Tally};
+pub use verdict::Verdict;
+pub use views::memory_view;
