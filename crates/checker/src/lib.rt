@@ -1,0 +1,41 @@
+// The check of a plain plan.
+ghost use mathlib.Core.Path.{_≡_};
+ghost use Rattle.format.specs.Opened.{opened};
+ghost use Rattle.checker.specs.Checking.{Checks};
+use cells::answer;
+use format::Opened;
+use model::Verdict;
+
+mod block;
+mod cells;
+mod fields;
+pub mod summary;
+
+// The check of a plan file that opening has found to be o.
+pub fn check_opened(plan: &[u8], o: Opened) -> Verdict
+    requires { ⌜ o ≡ opened (now plan) ⌝ }
+    ensures { λ r. ⌜ Checks (now (plan .entry)) r ⌝ }
+{
+    let v = o.verdict;
+    let Verdict::Accepted = v else {
+        return v;
+    };
+    if o.kind != 2 {
+        return Verdict::Refused(11, 0);
+    }
+    let starts = o.array_starts;
+    answer(
+        plan,
+        o.offset as usize,
+        o.records as usize,
+        o.arrays as usize,
+        &starts,
+    )
+}
+
+// Whether some run of a plan file may stop, at which record and in which cell.
+pub fn check(plan: &[u8]) -> Verdict
+    ensures { λ r. ⌜ Checks (now (plan .entry)) r ⌝ }
+{
+    check_opened(plan, format::open(plan))
+}
