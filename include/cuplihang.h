@@ -14,4 +14,7 @@ uint64_t plan_open(const uint8_t *plan, size_t plan_length);
    the number of its bytes in 32 to 47. */
 uint64_t plan_body_view(const uint8_t *plan, size_t plan_length, uint64_t body);
 
+/* Checks a plain plan over all its runs: 0 accepted; 18 with the record and the cell where a run may stop; 1 to 11. Packed as by plan_open. */
+uint64_t plan_check(const uint8_t *plan, size_t plan_length);
+
 #endif

@@ -1,6 +1,6 @@
 // The functions for C and Rust: include/cuplihang.h declares them.
 ghost use mathlib.Core.Path.{_≡_};
-ghost use Rattle.exports.specs.Packed.{packed, packed-opening, packed-body-view};
+ghost use Rattle.exports.specs.Packed.{packed, packed-opening, packed-body-view, PackedCheck};
 use model::Values;
 
 // A packed answer: number, place or record, cell, kind.
@@ -40,4 +40,15 @@ pub extern "C" fn plan_body_view(plan: &[u8], body: u64) -> u64
             cell: part.size,
         },
     )
+}
+
+// Checks a plan.
+#[no_mangle]
+pub extern "C" fn plan_check(plan: &[u8]) -> u64
+    ensures { λ r. ⌜ PackedCheck (now (plan .entry)) r ⌝ }
+{
+    let o = format::open(plan);
+    let kind = o.kind;
+    let v = checker::check_opened(plan, o);
+    pack(kind, model::values_of(v, 18))
 }
