@@ -1,0 +1,45 @@
+-- `plancheck::line_of` gives the line of a plan: the check's answer of a plain one, the opening's of any other.
+use mathlib.Core.Path.{sym, ap, _∙_}
+use borrow.Author.Needs.{needs}
+use borrow.Author.Tests.{eq-eqb, ne-eqb}
+use Rattle.plancheck.proofs.line_of.Statement.{statement}
+use Rattle.plancheck.proofs.line_of.Tie as tie
+
+open-requires : tie.Need-open-requires
+open-requires c κs = search needs
+
+check-opened-requires : tie.Need-check-opened-requires
+check-opened-requires c κs = search needs
+
+values-of-requires : tie.Need-values-of-requires
+values-of-requires c κs = search needs
+
+returns : tie.Need-returns
+returns c = record {
+  answer = c .before .check-opened .result;
+  answers = rw (eq-eqb _ _ (sym (ap (λ o. o .kind) (c .before .before .before .«open» .ensures)) ∙ c .before .before .if1 .taken)) (c .before .check-opened .ensures);
+  kind = ap (λ o. o .kind) (c .before .before .before .«open» .ensures);
+  values = c .values-of .ensures;
+}
+
+values-of-requires-2 : tie.Need-values-of-requires-2
+values-of-requires-2 c κs = search needs
+
+returns-2 : tie.Need-returns-2
+returns-2 c = record {
+  answer = c .before .before .«open» .result .verdict;
+  answers = rw (ne-eqb _ _ (λ e. c .before .if1 .left (ap (λ o. o .kind) (c .before .before .«open» .ensures) ∙ e))) (ap (λ o. o .verdict) (c .before .before .«open» .ensures));
+  kind = ap (λ o. o .kind) (c .before .before .«open» .ensures);
+  values = c .values-of2 .ensures;
+}
+
+pub line-of-spec : {M : Type 1} → statement M
+line-of-spec =
+    tie.close
+    (tie.spec
+    open-requires
+    check-opened-requires
+    values-of-requires
+    returns
+    values-of-requires-2
+    returns-2)

@@ -1,0 +1,60 @@
+//! The program `plancheck` against the walker. `CUPLIHANG_PLANCHECK` names the
+//! program, else it is the one that the gate has built.
+
+use cuplihang_tests::generate::*;
+use cuplihang_tests::walker::plancheck::line;
+use cuplihang_tests::walker::{self, FileKind};
+use std::io::Write;
+use std::process::{Command, Stdio};
+
+fn program_line(file: &[u8]) -> String {
+    let built = concat!(env!("CARGO_MANIFEST_DIR"), "/../target/bin/plancheck");
+    let program = std::env::var_os("CUPLIHANG_PLANCHECK").unwrap_or(built.into());
+    let piped = |command: &mut Command| command.stdin(Stdio::piped()).stdout(Stdio::piped()).spawn();
+    let mut child = piped(&mut Command::new(program)).expect("the program starts");
+    child.stdin.take().unwrap().write_all(file).expect("the program reads its input to the end");
+    let output = child.wait_with_output().expect("the program ends");
+    String::from_utf8(output.stdout).expect("a line of decimals")
+}
+
+/// A declared plan is only opened until the judge is there.
+fn expected(file: &[u8]) -> String {
+    match walker::open(file) {
+        Ok(plan) if plan.kind == FileKind::Declared => "1 0 0 0\n".to_string(),
+        _ => line(file),
+    }
+}
+
+fn match_line(file: &[u8]) {
+    assert_eq!(program_line(file), expected(file), "{:02X?}", &file[..file.len().min(400)]);
+}
+
+#[test]
+fn case_3_and_the_other_cases() {
+    assert_eq!(program_line(&CASE_3), "2 18 0 0\n");
+    for (draft, _) in twelve_cases() {
+        match_line(&encode(&draft));
+    }
+}
+
+#[test]
+fn seeded_files() {
+    let mut rng = Rng::new(100);
+    for _ in 0..500 {
+        match_line(&any_file(&mut rng));
+    }
+}
+
+/// "reads a file from standard input", whatever its length.
+#[test]
+fn inputs_of_any_length() {
+    match_line(&[]);
+    for length in [1, 3, 4, 10, 4096, 8388, 8389, 65_536, 1_000_000, 20_000_000] {
+        let mut file = vec![0; length];
+        match_line(&file);
+        for (byte, good) in file.iter_mut().zip([2, 1, 1, 0, 1, 0, 0, 0, 0, 0]) {
+            *byte = good;
+        }
+        match_line(&file);
+    }
+}
