@@ -11,7 +11,7 @@ use records::all_records;
 pub mod bytes;
 mod contents;
 mod records;
-mod sums;
+pub mod sums;
 
 // A record's eight bytes.
 pub struct Fields {

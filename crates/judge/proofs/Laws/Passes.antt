@@ -1,0 +1,95 @@
+-- The places of the judge's table one after the other: of one pass, of the passes, of the whole.
+use mathlib.Core.Path.{_≡_}
+use mathlib.Core.List.{List}
+use Prim.Native.Nat.{ℕ, zero, suc, _+_, _-_, _≤_, _<_}
+use native.Mathlib.Decide.{decLt}
+use native.Mathlib.Numerals.{add-one}
+use native.Mathlib.Omega.{arith}
+use lib.ListN.{getD}
+use borrow.Author.Tests.{eq-eqb, ne-eqb}
+use Rattle.model.specs.declared.Verdict.{Verdict}
+use Rattle.model.specs.declared.Verdict.the-variants.{Accepted, Refused}
+use Rattle.format.specs.declared.Opened.{Opened}
+use Rattle.format.specs.Rows.{Row, first, each}
+use Rattle.format.specs.Bytes.{kind-of, body-count, records-in, declarations-in, first-record}
+use Rattle.format.specs.Opening.{open-rows, opening}
+use Rattle.format.specs.Opened.{found}
+use Rattle.format.proofs.Laws.Rows.{holds, skips, stop, pass, each-more, each-stop}
+use Rattle.format.proofs.Laws.Tables.{next-record}
+use Rattle.format.proofs.Walking.{opened-facts, body-start, declarations-at}
+use Rattle.judge.specs.declared.Extent.{Extent}
+use Rattle.judge.specs.Judged.{record-rows, w-rows, pass-rows, judge-rows, judged}
+use Rattle.judge.specs.Inner.Passes.{PassAt}
+use Rattle.judge.proofs.Laws.Records.{declared-low}
+
+-- the answer of the first n entries, where they have one, is that of more
+early : (rows : ℕ → List Row) (v : Verdict) → (v ≡ Accepted → ⊥) → (n m : ℕ) → n ≤ m → v ≡ first (each n rows) → v ≡ first (each m rows)
+unfolding each
+early rows v nay n zero l e = let z : n ≡ 0 = omega arith in rw z at e
+early rows v nay n (suc m) l e = elim (decLt n (suc m)) [
+  | yes h ↦ stop (each m rows) (rows m) v nay (early rows v nay n m (omega arith) e)
+  | no h ↦ let z : n ≡ suc m = omega arith in rw z at e
+]
+
+-- one pass: 12, 13 and 14, 15
+module _ (f : List ℕ) (e : Extent) (p : PassAt f e) (v : Verdict) where
+  pub pass-twice : (v ≡ Accepted → ⊥) → v ≡ first (each (declarations-in f (e .body)) (record-rows f (e .body))) → v ≡ first (pass-rows f (e .body))
+  unfolding pass-rows
+  pass-twice nay a = stop _ _ v nay (early _ v nay _ _ (rw (← p .declarations-are, ← p .records-are) (declared-low f e p)) a)
+
+  pub pass-used : (v ≡ Accepted → ⊥) → v ≡ first (each (records-in f (e .body)) (record-rows f (e .body))) → v ≡ first (pass-rows f (e .body))
+  unfolding pass-rows
+  pass-used nay a = stop _ _ v nay a
+
+  pub pass-unmet : Accepted ≡ first (each (records-in f (e .body)) (record-rows f (e .body))) → v ≡ first (each (declarations-in f (e .body)) (w-rows f (e .body))) → v ≡ first (pass-rows f (e .body))
+  unfolding pass-rows
+  pass-unmet a b = pass (each (records-in f (e .body)) (record-rows f (e .body))) _ v a b
+
+-- the passes, body 1 first
+module _ (f : List ℕ) where
+  abbrev pub passes-rows : ℕ → List Row
+  passes-rows n = each n (λ b. pass-rows f (suc b))
+
+  module _ (b : ℕ) (l : 1 ≤ b) (a : Accepted ≡ first (passes-rows (b - 1))) (v : Verdict) (e : v ≡ first (pass-rows f b)) where
+    here : v ≡ first (pass-rows f (suc (b - 1)))
+    here = let z : suc (b - 1) ≡ b = omega arith in rw z e
+
+    pub passes-more : v ≡ Accepted → Accepted ≡ first (passes-rows (b + 1 - 1))
+    passes-more k = let z : b + 1 - 1 ≡ b - 1 + 1 = omega arith in rw z (each-more _ (b - 1) a (rw k at here))
+
+    pub passes-stop : (v ≡ Accepted → ⊥) → (n : ℕ) → b < n → v ≡ first (passes-rows (n - 1))
+    passes-stop nay n h = each-stop _ (b - 1) (n - 1) v nay a here (omega arith)
+
+  -- what opening found of body b
+  pub extent : (o : Opened) → o ≡ found f → Accepted ≡ opening f → kind-of f ≡ 1 → (b : ℕ) → 1 ≤ b → b < body-count f →
+      (getD (o .«body_starts») b 0 ≤ getD (o .«body_starts») (b + 1) 0) × PassAt f (record { body = b; from = getD (o .«body_starts») b 0; declarations = getD (o .declarations) b 0; records = getD (o .«body_starts») (b + 1) 0 - getD (o .«body_starts») b 0 })
+  extent o e a k b l h =
+      let w = opened-facts f a .bounds in
+      let n : first-record f (b + 1) ≡ first-record f b + records-in f b = rw add-one (next-record f b h) in
+      let here = body-start f o e w b (omega arith) in
+      let next = body-start f o e w (b + 1) (omega arith) in (
+        omega arith,
+        record {
+          opens = a;
+          declared = k;
+          low = l;
+          high = h;
+          from-is = here;
+          declarations-are = declarations-at f o e w b h;
+          records-are = rw (here, next) (omega arith);
+        },
+      )
+
+  -- opening, 11, the passes
+  pub judged-opening : (v : Verdict) → (v ≡ Accepted → ⊥) → v ≡ opening f → v ≡ judged f
+  unfolding judged judge-rows opening
+  judged-opening v nay e = stop (open-rows f) _ v nay e
+
+  module _ (a : Accepted ≡ opening f) where
+    pub judged-plain : (kind-of f ≡ 1 → ⊥) → Refused 11 0 ≡ judged f
+    unfolding judged judge-rows opening
+    judged-plain k = pass (open-rows f) _ _ a (holds _ _ _ _ (rw (ne-eqb (kind-of f) 1 k)))
+
+    pub judged-passes : kind-of f ≡ 1 → (v : Verdict) → v ≡ first (passes-rows (body-count f - 1)) → v ≡ judged f
+    unfolding judged judge-rows opening
+    judged-passes k v e = pass (open-rows f) _ v a (skips _ _ _ _ v (rw (eq-eqb (kind-of f) 1 k)) e)

@@ -1,0 +1,153 @@
+-- The records of a pass one by one, arms or not: what the opening has tested of their fields and kinds.
+use mathlib.Core.Path.{_≡_, refl, _∙_}
+use mathlib.Core.Bool.{true, _&&_}
+use mathlib.Core.List.{List}
+use Prim.Native.Nat.{ℕ, zero, suc, _+_, _≤_, _<_}
+use native.Nat.{ℕᴺ-discrete}
+use native.Mathlib.Decide.{decLt}
+use native.Mathlib.Omega.{arith}
+use lib.Dec.{ltb, eqb}
+use borrow.Author.Tests.{ltb-true, leb-true, eqb-true, le-ltb, ne-eqb}
+use Rattle.model.proofs.Booleans.{and-out}
+use Rattle.model.specs.Sides.{is, length-of}
+use Rattle.format.specs.declared.Fields.{Fields}
+use Rattle.format.specs.Bytes.{kind-of, array-count, body-count, length-at, arrays-of, declarations-in, sizes-of, first-record, fields-at}
+use Rattle.format.specs.Opening.{fields-fit, allowed, first-arm, second-arm}
+use Rattle.format.specs.Inner.Walks.{Good, Walkable, block-between}
+use Rattle.format.specs.Plans.{side-of, pass-at}
+use Rattle.format.proofs.Laws.Ranges.{of-range}
+use Rattle.format.proofs.Laws.Tables.{getD-table, first-rises, next-record}
+use Rattle.format.proofs.Laws.Fields.{Sizes, fit-cells, fit-array, fit-declaration, fit-branch, fit-loop}
+use Rattle.format.proofs.Walking.{Facts, opened-facts, good-parts}
+use Rattle.format.proofs.Trees.{pass-declaration, pass-walk, pass-body}
+use Rattle.judge.specs.declared.Extent.{Extent}
+use Rattle.judge.specs.Inner.Passes.{PassAt}
+
+-- a side and an array, by their numbers in the file
+pub same-side : (s t : ℕ) → s < 2 → t < 2 → is (side-of s) (side-of t) ≡ eqb s t
+same-side s t h k = elim (ℕᴺ-discrete s 0) [
+  | yes u ↦ elim (ℕᴺ-discrete t 0) [ yes v ↦ rw (u, v) | no v ↦ let w : t ≡ 1 = omega arith in rw (u, w) ]
+  | no u ↦ let z : s ≡ 1 = omega arith in elim (ℕᴺ-discrete t 0) [ yes v ↦ rw (z, v) | no v ↦ let w : t ≡ 1 = omega arith in rw (z, w) ]
+]
+
+pub array-length : (f : List ℕ) (a : ℕ) → a < array-count f → length-of (arrays-of f) a ≡ length-at f a
+unfolding arrays-of
+array-length f a h = getD-table (length-at f) (array-count f) a 0 h
+
+-- what the rule of the fields says
+module _ (f : List ℕ) (x : Fields) (fits : fields-fit f x ≡ true) where
+  sizes : Sizes f x (array-count f) (body-count f) (length-at f (x .array))
+  sizes = record { arrays-are = refl; bodies-are = refl; size-is = refl }
+
+  pub cells-fit : 1 ≤ x .kind → x .kind ≤ 3 → (x .side < 2) × (x .array < array-count f) × (x .p ≤ x .q) × (x .q ≤ length-at f (x .array))
+  cells-fit h k =
+      let on-side = ltb (x .side) 2 in
+      let on-array = ltb (x .array) (array-count f) in
+      let last-zero = eqb (x .zero) 0 in
+      let w₁ = and-out (on-side && on-array && last-zero && ltb (x .p) (x .q)) _ (fit-cells f x _ _ _ sizes h k ∙ fits) in
+      let w₂ = and-out (on-side && on-array && last-zero) _ (w₁ .0) in
+      let w₃ = and-out (on-side && on-array) _ (w₂ .0) in
+      let w₄ = and-out on-side _ (w₃ .0) in
+      let less : x .p < x .q = ltb-true _ _ (w₂ .1) in
+      (ltb-true _ _ (w₄ .0), ltb-true _ _ (w₄ .1), omega arith, leb-true _ _ (w₁ .1))
+
+  array-fits : (ltb (x .side) 2 && ltb (x .array) (array-count f) && eqb (x .zero) 0 && eqb (x .p) 0 && eqb (x .q) 0) ≡ fields-fit f x → (x .side < 2) × (x .array < array-count f)
+  array-fits e =
+      let on-side = ltb (x .side) 2 in
+      let on-array = ltb (x .array) (array-count f) in
+      let last-zero = eqb (x .zero) 0 in
+      let w₁ = and-out (on-side && on-array && last-zero && eqb (x .p) 0) _ (e ∙ fits) in
+      let w₂ = and-out (on-side && on-array && last-zero) _ (w₁ .0) in
+      let w₃ = and-out (on-side && on-array) _ (w₂ .0) in
+      let w₄ = and-out on-side _ (w₃ .0) in
+      (ltb-true _ _ (w₄ .0), ltb-true _ _ (w₄ .1))
+
+  declaration-fits : 16 ≤ x .kind → x .kind ≤ 18 → (x .side < 2) × (x .array < array-count f)
+  declaration-fits h k = array-fits (fit-declaration f x _ _ _ sizes h k)
+
+  no-array : (eqb (x .side) 0 && eqb (x .array) 0 && eqb (x .zero) 0) ≡ true → x .array ≡ 0
+  no-array e = eqb-true _ _ (and-out (eqb (x .side) 0) _ (and-out (eqb (x .side) 0 && eqb (x .array) 0) _ e .0) .1)
+
+  array-below : 1 ≤ array-count f → 1 ≤ x .kind → x .kind ≤ 7 → x .array < array-count f
+  array-below n h k = elim (decLt (x .kind) 4) [
+    | yes u ↦ cells-fit h (omega arith) .1
+    | no u ↦ elim (decLt (x .kind) 6) [
+      | yes v ↦ array-fits (fit-array f x _ _ _ sizes (omega arith) (omega arith)) .1
+      | no v ↦ elim (ℕᴺ-discrete (x .kind) 6) [
+        | yes six ↦ let z = no-array (fit-branch f x _ _ _ sizes six ∙ fits) in omega arith
+        | no more ↦
+            let seven : x .kind ≡ 7 = omega arith in
+            let z = no-array (and-out (eqb (x .side) 0 && eqb (x .array) 0 && eqb (x .zero) 0) _ (fit-loop f x _ _ _ sizes seven ∙ fits) .0) in
+            omega arith
+      ]
+    ]
+  ]
+
+-- each record of a good block, those of its arms included, has passed 8 and 9
+flat : (f : List ℕ) (b n depth r end : ℕ) → end ≤ r + n → Good f b depth r end → (k : ℕ) → r ≤ k → k < end → (fields-fit f (fields-at f k) ≡ true) × (allowed f b k (fields-at f k) ≡ true)
+flat f b zero depth r end l g k h m = absurd (omega arith)
+flat f b (suc n) depth r end l g k h m =
+    let p = good-parts f b depth r end (omega arith) g in
+    let i = first-arm (fields-at f r) in
+    let j = second-arm (fields-at f r) in
+    let inside : r + 1 + i + j ≤ end = p .tests .inside in
+    elim (ℕᴺ-discrete k r) [
+      | yes e ↦ rw e (p .tests .fits, p .tests .allows)
+      | no e ↦ elim (decLt k (r + 1 + i)) [
+        | yes u ↦ flat f b n (depth + 1) (r + 1) (r + 1 + i) (omega arith) (p .one) k (omega arith) u
+        | no u ↦ elim (decLt k (r + 1 + i + j)) [
+          | yes v ↦ flat f b n (depth + 1) (r + 1 + i) (r + 1 + i + j) (omega arith) (p .two) k (omega arith) v
+          | no v ↦ flat f b n depth (r + 1 + i + j) end (omega arith) (p .rest) k (omega arith) m
+        ]
+      ]
+    ]
+
+module _ (f : List ℕ) (e : Extent) (p : PassAt f e) where
+  pub facts : Facts f
+  facts = opened-facts f (p .opens)
+
+  pub arrays-low : array-count f ≤ 32
+  arrays-low = facts .bounds .header .arrays .1
+
+  pub declared-low : e .declarations ≤ e .records
+  declared-low = rw (p .declarations-are, p .records-are) (facts .bounds .declared (e .body) (p .high))
+
+  pass-end : first-record f (suc (e .body)) ≡ e .from + e .records
+  pass-end = next-record f (e .body) (p .high) ∙ rw (p .from-is, p .records-are)
+
+  pub records-low : e .from + e .records ≤ 1024
+  records-low = rw (← pass-end) (omega (arith, first-rises (sizes-of f) (suc (e .body)) (body-count f) (p .high), facts .bounds .records))
+
+  tested : (i : ℕ) → i < e .records → (fields-fit f (fields-at f (e .from + i)) ≡ true) × (allowed f (e .body) (e .from + i) (fields-at f (e .from + i)) ≡ true)
+  tested i h =
+      let g = rw (pass-end, ← p .from-is) at (facts .good (e .body) (p .high)) in
+      flat f (e .body) (e .records) 0 (e .from) (e .from + e .records) (omega arith) g (e .from + i) (omega arith) (omega arith)
+
+  -- a declaration
+  module _ (i : ℕ) (h : i < e .declarations) where
+    pub declaration-kind : (16 ≤ fields-at f (e .from + i) .kind) × (fields-at f (e .from + i) .kind ≤ 18)
+    declaration-kind = rw (p .from-is) (pass-declaration f facts (p .declared) (e .body) (p .low) (p .high) i (rw (← p .declarations-are) h))
+
+    pub declaration-array : (fields-at f (e .from + i) .side < 2) × (fields-at f (e .from + i) .array < array-count f)
+    declaration-array = declaration-fits f _ (tested i (omega (arith, declared-low)) .0) (declaration-kind .0) (declaration-kind .1)
+
+  -- a record after the declarations
+  module _ (i : ℕ) (h : e .declarations ≤ i) (l : i < e .records) where
+    pub other-kind : (1 ≤ fields-at f (e .from + i) .kind) × (fields-at f (e .from + i) .kind ≤ 7)
+    unfolding allowed
+    other-kind =
+        let after : first-record f (e .body) + declarations-in f (e .body) ≤ e .from + i = rw (← p .from-is, ← p .declarations-are) (omega arith) in
+        of-range 1 7 _ (rw (ne-eqb (kind-of f) 2 (λ z. omega (arith, p .declared)), ne-eqb (e .body) 0 (λ z. omega (arith, p .low)), le-ltb _ _ after) at (tested i l .1))
+
+    pub other-array : fields-at f (e .from + i) .array < array-count f
+    other-array = array-below f _ (tested i l .0) (facts .bounds .header .arrays .0) (other-kind .0) (other-kind .1)
+
+    pub other-side : fields-at f (e .from + i) .kind ≤ 3 → fields-at f (e .from + i) .side < 2
+    other-side k = cells-fit f _ (tested i l .0) (other-kind .0) k .0
+
+  -- all of them, as a block
+  pub others-walk : Walkable f (e .from + e .declarations) (e .from + e .records)
+  others-walk = rw (p .from-is, p .declarations-are, p .records-are) (pass-walk f facts (p .declared) (e .body) (p .low) (p .high))
+
+  pub others-block : pass-at f (e .body) .body ≡ block-between f (e .from + e .declarations) (e .from + e .records)
+  others-block = rw (p .from-is, p .declarations-are, p .records-are) (pass-body f facts (p .declared) (e .body) (p .low) (p .high))

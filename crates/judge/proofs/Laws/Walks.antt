@@ -1,0 +1,111 @@
+-- The cells that every way through a block writes, record by record.
+use mathlib.Core.Path.{_≡_, refl, sym, _∙_}
+use mathlib.Core.Bool.{Bool, true, false, cond, _&&_, _||_, and-false, or-false, or-assoc}
+use mathlib.Core.List.{List}
+use Prim.Native.Nat.{ℕ, _+_, _≤_, _<_}
+use native.Nat.{ℕᴺ-discrete}
+use native.Mathlib.Omega.{arith}
+use lib.Dec.{eqb}
+use lib.ListN.{length, getD}
+use borrow.Author.Tests.{eq-eqb, ne-eqb}
+use Rattle.model.specs.Sides.{Side, is, Arrays, length-of, array-of, Cells, within}
+use Rattle.model.specs.Effects.{read, copy, need, mark}
+use Rattle.model.specs.Judging.{writes-cell}
+use Rattle.model.proofs.Numbering.{array-ends, within-array, within-range}
+use Rattle.format.specs.declared.Fields.{Fields}
+use Rattle.format.specs.Bytes.{array-count, arrays-of, fields-at}
+use Rattle.format.specs.Opening.{first-arm, second-arm}
+use Rattle.format.specs.Plans.{side-of, action-of}
+use Rattle.format.specs.Inner.Walks.{Walkable}
+use Rattle.format.proofs.Walking.{steps}
+use Rattle.format.proofs.Trees.{block-none, block-branch, block-loop, block-act}
+use Rattle.judge.specs.Inner.Marks.{marked, Adds, Tables, hits, always}
+use Rattle.judge.proofs.Laws.Records.{same-side, array-length, cells-fit}
+
+-- a record that is no write writes no cell
+no-write : (arrays : Arrays) (s : Side) (c : ℕ) (x : Fields) → (x .kind ≡ 2 → ⊥) → writes-cell arrays s c (action-of x) ≡ false
+unfolding action-of
+no-write arrays s c x h = rw (ne-eqb (x .kind) 2 h) (go (eqb (x .kind) 1) (eqb (x .kind) 3) (eqb (x .kind) 4) (side-of (x .side)) (record { array = x .array; p = x .p; q = x .q }))
+  where
+    go : (i j k : Bool) (t : Side) (these : Cells) → writes-cell arrays s c (cond i (read t these) (cond j (copy t these) (cond k (need t (these .array)) (mark t (these .array))))) ≡ false
+    go true j k t these = refl
+    go false true k t these = refl
+    go false false true t these = refl
+    go false false false t these = refl
+
+-- record r of a block that ends before record `end`, with the fields x and arms of i and j records
+pub record RecordAt (f : List ℕ) (r end : ℕ) (x : Fields) (i j : ℕ) : Type 0 where
+  pub less : r < end
+  pub walk : Walkable f r end
+  pub fields : x ≡ fields-at f r
+  pub one : i ≡ first-arm x
+  pub two : j ≡ second-arm x
+
+-- its arms and the rest
+pub record Arms (f : List ℕ) (r end i j : ℕ) : Type 0 where
+  pub inside : r + 1 + i + j ≤ end
+  pub one : Walkable f (r + 1) (r + 1 + i)
+  pub two : Walkable f (r + 1 + i) (r + 1 + i + j)
+  pub rest : Walkable f (r + 1 + i + j) end
+
+pub arms-of : (f : List ℕ) (r end : ℕ) (x : Fields) (i j : ℕ) → RecordAt f r end x i j → Arms f r end i j
+arms-of f r end x i j h = rw (h .one, h .two) (let s = steps f r end (h .less) (h .walk) x (h .fields) in record { inside = s .inside; one = s .one; two = s .two; rest = s .rest })
+
+module _ (f starts sides : List ℕ) (t : Tables f starts sides) where
+  abbrev side-at : ℕ → Side
+  side-at c = side-of (getD sides (array-of (arrays-of f) c) 0)
+
+  pub adds-none : (r end : ℕ) → end ≤ r → (l : List Bool) → length l ≡ 4096 → Adds l l (always f sides r end)
+  unfolding always
+  adds-none r end h l n = record { size = n; marks = λ c m. sym (rw (block-none f r end h) (or-false (marked l c))) }
+
+  module _ (r end : ℕ) (x : Fields) (i j : ℕ) (h : RecordAt f r end x i j) where
+    at-branch : x .kind ≡ 6 → (c : ℕ) → always f sides r end c ≡ ((always f sides (r + 1) (r + 1 + i) c && always f sides (r + 1 + i) (r + 1 + i + j) c) || always f sides (r + 1 + i + j) end c)
+    unfolding always
+    at-branch n c = rw (h .one, h .two, block-branch f r end (h .less) (h .walk) x (h .fields) n)
+
+    at-other : (x .kind ≡ 6 → ⊥) → (c : ℕ) → always f sides r end c ≡ (writes-cell (arrays-of f) (side-at c) c (action-of x) || always f sides (r + 1 + i + j) end c)
+    unfolding always
+    at-other n c = elim (ℕᴺ-discrete (x .kind) 7) [
+      | yes m ↦ rw (h .one, h .two, no-write (arrays-of f) (side-at c) c x (λ z. omega arith), block-loop f r end (h .less) (h .walk) x (h .fields) m)
+      | no m ↦ rw (h .one, h .two, block-act f r end (h .less) (h .walk) x (h .fields) n m)
+    ]
+
+    -- what a write says of its cells
+    module _ (k : x .kind ≡ 2) where
+      fits : (x .side < 2) × (x .array < array-count f) × (x .p ≤ x .q) × (x .q ≤ length-of (arrays-of f) (x .array))
+      fits =
+          let w = cells-fit f x (steps f r end (h .less) (h .walk) x (h .fields) .fits) (omega arith) (omega arith) in
+          (w .0, w .1, w .2, rw (array-length f (x .array) (w .1)) (w .3))
+
+      pub write-fits : (x .array < 32) × (x .p ≤ x .q) × (getD starts (x .array) 0 + x .q ≤ 4096)
+      write-fits = (omega (arith, fits .1, t .arrays-low), fits .2, rw (t .starts-are (x .array) (omega (arith, fits .1))) (omega (arith, fits .3, array-ends (arrays-of f) (x .array), t .cells-low)))
+
+      -- the side for the array of a cell of the record is the side for the record's array
+      write-side : (c : ℕ) (w : Bool) → within (arrays-of f) (record { array = x .array; p = x .p; q = x .q }) c ≡ w → (is (side-of (x .side)) (side-at c) && w) ≡ (eqb (x .side) (getD sides (x .array) 0) && w)
+      write-side c false e = and-false (is (side-of (x .side)) (side-at c)) ∙ sym (and-false (eqb (x .side) (getD sides (x .array) 0)))
+      write-side c true e = rw (within-array (arrays-of f) _ c e, same-side (x .side) (getD sides (x .array) 0) (fits .0) (t .sides-low (x .array) (write-fits .0)))
+
+      write-hits : (c : ℕ) → writes-cell (arrays-of f) (side-at c) c (action-of x) ≡ hits starts sides x c
+      unfolding action-of hits
+      write-hits c = rw (ne-eqb (x .kind) 1 (λ z. omega arith), eq-eqb (x .kind) 2 k, write-side c _ refl, within-range (arrays-of f) (record { array = x .array; p = x .p; q = x .q }) c (fits .3), t .starts-are (x .array) (omega (arith, fits .1)))
+
+    record-hits : (c : ℕ) → writes-cell (arrays-of f) (side-at c) c (action-of x) ≡ hits starts sides x c
+    unfolding hits
+    record-hits c = elim (ℕᴺ-discrete (x .kind) 2) [
+      | yes k ↦ write-hits k c
+      | no k ↦ no-write (arrays-of f) (side-at c) c x k ∙ rw (ne-eqb (x .kind) 2 k)
+    ]
+
+    -- a set that has the cells of record r, and then those of the rest
+    module _ (before now after : List Bool) (w : Adds now after (always f sides (r + 1 + i + j) end)) where
+      pub adds-branch : x .kind ≡ 6 → (none one two : List Bool) → ((c : ℕ) → marked none c ≡ false) →
+          Adds none one (always f sides (r + 1) (r + 1 + i)) → Adds none two (always f sides (r + 1 + i) (r + 1 + i + j)) → Adds before now (λ c. marked one c && marked two c) →
+          Adds before after (always f sides r end)
+      adds-branch k none one two z u v m = record {
+        size = w .size;
+        marks = λ c l. w .marks c l ∙ rw (m .marks c l, rw (z c) at (u .marks c l), rw (z c) at (v .marks c l), at-branch k c) (or-assoc (marked before c) _ _);
+      }
+
+      pub adds-other : (x .kind ≡ 6 → ⊥) → Adds before now (hits starts sides x) → Adds before after (always f sides r end)
+      adds-other k m = record { size = w .size; marks = λ c l. w .marks c l ∙ rw (m .marks c l, at-other k c, record-hits c) (or-assoc (marked before c) _ _) }

@@ -1,0 +1,162 @@
+-- The judge accepts a file exactly if it opens as a declared plan that keeps the model's rules.
+use mathlib.Core.Path.{_≡_, refl, sym, _∙_}
+use mathlib.Core.Logic.{_↔_}
+use mathlib.Core.Bool.{Bool, true, false, cond, not, _&&_, true≢false, and-false}
+use mathlib.Core.List.{List, [], _∷_}
+use Prim.Native.Nat.{ℕ, suc, _+_, _-_, _≤_, _<_}
+use native.Nat.{ℕᴺ-discrete}
+use native.Mathlib.Decide.{decLt}
+use native.Mathlib.Omega.{arith}
+use lib.Dec.{eqb}
+use borrow.Author.Tests.{lt-ltb, le-ltb, eq-eqb, ne-eqb, eqb-true, not-false}
+use Rattle.model.specs.declared.Verdict.the-variants.{Accepted}
+use Rattle.model.specs.Lists.{All}
+use Rattle.model.specs.Sides.{Side, Cells}
+use Rattle.model.specs.Effects.{copy, need, mark}
+use Rattle.model.specs.Judging.{R, W, RW, Declaration, permits, every, declared-once, Written, Rules, Accepts}
+use Rattle.format.specs.declared.Fields.{Fields}
+use Rattle.format.specs.Rows.{row, first, each}
+use Rattle.format.specs.Bytes.{kind-of, body-count, arrays-of, records-in, declarations-in, first-record, fields-at}
+use Rattle.format.specs.Opening.{between, open-rows, opening}
+use Rattle.format.specs.Plans.{side-of, action-of, declaration-of, pass-at, declared-plan-of}
+use Rattle.format.proofs.Laws.Ranges.{in-range, out-of-range}
+use Rattle.format.proofs.Laws.Rows.{skips, skipped, empty, pass, passed}
+use Rattle.judge.specs.declared.Extent.{Extent}
+use Rattle.judge.specs.Judged.{declared-before, record-rows, w-rows, pass-rows, judge-rows, judged}
+use Rattle.judge.specs.Inner.Passes.{PassAt}
+use Rattle.judge.proofs.Laws.Records.{declared-low, other-kind, others-walk, others-block}
+use Rattle.judge.proofs.Laws.Passes.{judged-passes}
+use Rattle.judge.proofs.Rules.Tables.{each-accepts, all-table}
+use Rattle.judge.proofs.Rules.Declarations.{once-table}
+use Rattle.judge.proofs.Rules.Blocks.{Passes, every-each}
+use Rattle.judge.proofs.Rules.Ways.{written-cells}
+pub mod Tables
+pub mod Declarations
+pub mod Blocks
+pub mod Ways
+
+-- "Kinds 3, 4, 5 are barred."
+barred : (ds : List Declaration) (x : Fields) → 3 ≤ x .kind → permits ds (action-of x) ≡ false
+unfolding action-of
+barred ds x h = rw (ne-eqb (x .kind) 1 (λ z. omega arith), ne-eqb (x .kind) 2 (λ z. omega arith)) (go (eqb (x .kind) 3) (eqb (x .kind) 4) (side-of (x .side)) (record { array = x .array; p = x .p; q = x .q }))
+  where
+    go : (i j : Bool) (t : Side) (these : Cells) → permits ds (cond i (copy t these) (cond j (need t (these .array)) (mark t (these .array)))) ≡ false
+    go true j t these = refl
+    go false true t these = refl
+    go false false t these = refl
+
+w-kind : (k : ℕ) → (cond (eqb k 16) R (cond (eqb k 17) W RW) ≡ W) ↔ (k ≡ 17)
+w-kind k = elim (ℕᴺ-discrete k 17) [
+  | yes e ↦ (λ z. e, λ z. rw e)
+  | no e ↦ (λ z. absurd (other (eqb k 16) (rw (ne-eqb k 17 e) at z)), λ z. absurd (e z))
+]
+  where
+    other : (b : Bool) → cond b R RW ≡ W → ⊥
+    other true z = let n : _≡_ {A = ℕ} 0 1 = cc in omega arith
+    other false z = let n : _≡_ {A = ℕ} 0 1 = cc in omega arith
+
+-- numbers 13 and 14 of a record with the fields x
+use-kept : (ds : List Declaration) (x : Fields) (r : ℕ) → 1 ≤ x .kind → x .kind ≤ 7 →
+    (Accepted ≡ first (row (between 1 2 (x .kind) && not (permits ds (action-of x))) 13 r ∷ row (between 3 5 (x .kind)) 14 r ∷ []))
+    ↔ ((x .kind ≡ 6 → ⊥) → (x .kind ≡ 7 → ⊥) → permits ds (action-of x) ≡ true)
+use-kept ds x r low high = elim (decLt (x .kind) 3) [
+  | yes h ↦ (
+    λ e p q. not-false _ (rw (in-range 1 2 (x .kind) low (omega arith)) at (skipped _ _ _ _ e .0)),
+    λ t. skips _ _ _ _ _ (rw (t (λ z. omega arith) (λ z. omega arith)) (and-false (between 1 2 (x .kind)))) (skips _ _ _ _ _ (out-of-range 3 5 (x .kind) (λ u v. omega arith)) empty),
+  )
+  | no h ↦ (
+    λ e p q. absurd (true≢false (sym (in-range 3 5 (x .kind) (omega arith) (below p q)) ∙ skipped _ _ _ _ (skipped _ _ _ _ e .1) .0)),
+    λ t. skips _ _ _ _ _ (rw (out-of-range 1 2 (x .kind) (λ u v. omega arith))) (skips _ _ _ _ _ (out-of-range 3 5 (x .kind) (λ u v. true≢false (sym (t (λ z. omega arith) (λ z. omega arith)) ∙ barred ds x u))) empty),
+  )
+]
+  where
+    below : (x .kind ≡ 6 → ⊥) → (x .kind ≡ 7 → ⊥) → x .kind ≤ 5
+    below p q = elim (ℕᴺ-discrete (x .kind) 6) [
+      | yes z ↦ absurd (p z)
+      | no z ↦ elim (ℕᴺ-discrete (x .kind) 7) [ yes y ↦ absurd (q y) | no y ↦ omega arith ]
+    ]
+
+-- pass b of a declared plan that opens, number by number
+module _ (f : List ℕ) (a : Accepted ≡ opening f) (k : kind-of f ≡ 1) (b : ℕ) (low : 1 ≤ b) (high : b < body-count f) where
+  abbrev extent : Extent
+  extent = record { body = b; from = first-record f b; declarations = declarations-in f b; records = records-in f b }
+
+  here : PassAt f extent
+  here = record { opens = a; declared = k; low = low; high = high; from-is = refl; declarations-are = refl; records-are = refl }
+
+  -- 12
+  once-kept : ((i : ℕ) → i < declarations-in f b → Accepted ≡ first (record-rows f b i)) ↔ (declared-once (pass-at f b .declarations) ≡ true)
+  unfolding pass-at record-rows declared-before
+  once-kept =
+      let same = once-table (λ i. declaration-of (fields-at f (first-record f b + i))) (declarations-in f b) in
+      (λ r. same .1 (λ i l. skipped _ _ _ _ (rw (lt-ltb i (declarations-in f b) l) at (r i l)) .0), λ o i l. rw (lt-ltb i (declarations-in f b) l) (skips _ _ _ _ _ (same .0 o i l) empty))
+
+  -- 13 and 14
+  record-kept : (i : ℕ) → declarations-in f b ≤ i → i < records-in f b → (Accepted ≡ first (record-rows f b i)) ↔ Passes (permits (pass-at f b .declarations)) f (first-record f b + i)
+  unfolding record-rows
+  record-kept i h l =
+      let k = other-kind f extent here i h l in
+      rw (le-ltb i (declarations-in f b) h) (use-kept (pass-at f b .declarations) (fields-at f (first-record f b + i)) (first-record f b + i) (k .0) (k .1))
+
+  uses-kept : ((i : ℕ) → declarations-in f b ≤ i → i < records-in f b → Accepted ≡ first (record-rows f b i)) ↔ (every (permits (pass-at f b .declarations)) (pass-at f b .body) ≡ true)
+  uses-kept =
+      let from = first-record f b in
+      let same = every-each (permits (pass-at f b .declarations)) f (from + declarations-in f b) (from + records-in f b) (others-walk f extent here) in
+      rw (others-block f extent here) (
+        λ r. same .1 (λ k h l.
+            let z : from + (k - from) ≡ k = omega arith in
+            rw z at (record-kept (k - from) (omega arith) (omega arith) .0 (r (k - from) (omega arith) (omega arith)))),
+        λ e i h l. record-kept i h l .1 (same .0 e (from + i) (omega arith) (omega arith)),
+      )
+
+  -- 15
+  w-kept : (i : ℕ) → (Accepted ≡ first (w-rows f b i)) ↔ (declaration-of (fields-at f (first-record f b + i)) .mode ≡ W → Written (arrays-of f) (pass-at f b .body) (declaration-of (fields-at f (first-record f b + i))))
+  unfolding w-rows declaration-of
+  w-kept i =
+      let x = fields-at f (first-record f b + i) in
+      let cells = written-cells (arrays-of f) (pass-at f b .body) (declaration-of x) in (
+        λ e w. cells .0 (not-false _ (rw (eq-eqb (x .kind) 17 (w-kind (x .kind) .0 w)) at (skipped _ _ _ _ e .0))),
+        λ h. skips _ _ _ _ _ (elim (ℕᴺ-discrete (x .kind) 17) [
+          | yes k ↦ rw (cells .1 (h (w-kind (x .kind) .1 k))) (and-false (eqb (x .kind) 17))
+          | no k ↦ rw (ne-eqb (x .kind) 17 k)
+        ]) empty,
+      )
+
+  ws-kept : ((i : ℕ) → i < declarations-in f b → Accepted ≡ first (w-rows f b i)) ↔ All (λ (d : Declaration). d .mode ≡ W → Written (arrays-of f) (pass-at f b .body) d) (pass-at f b .declarations)
+  unfolding pass-at
+  ws-kept =
+      let same = all-table (λ (d : Declaration). d .mode ≡ W → Written (arrays-of f) (pass-at f b .body) d) (λ i. declaration-of (fields-at f (first-record f b + i))) (declarations-in f b) in
+      (λ r. same .1 (λ i l. w-kept i .0 (r i l)), λ w i l. w-kept i .1 (same .0 w i l))
+
+  pass-accepts : (Accepted ≡ first (pass-rows f b)) ↔ Rules (arrays-of f) (pass-at f b)
+  unfolding pass-rows
+  pass-accepts =
+      let n = declarations-in f b in
+      let m = records-in f b in
+      let records = each-accepts (record-rows f b) m in
+      let declarations = each-accepts (w-rows f b) n in (
+        λ e.
+            let q = passed (each m (record-rows f b)) _ e in
+            record {
+              once = once-kept .0 (λ i l. records .0 (q .0) i (omega (arith, declared-low f extent here)));
+              permitted = uses-kept .0 (λ i h l. records .0 (q .0) i l);
+              written = ws-kept .0 (declarations .0 (q .1));
+            },
+        λ r. pass (each m (record-rows f b)) _ Accepted
+            (records .1 (λ i l. elim (decLt i n) [ yes h ↦ once-kept .1 (r .once) i h | no h ↦ uses-kept .1 (r .permitted) i (omega arith) l ]))
+            (declarations .1 (ws-kept .1 (r .written))),
+      )
+
+pub accepted-rules : (f : List ℕ) → (judged f ≡ Accepted) ↔ ((opening f ≡ Accepted) × (kind-of f ≡ 1) × Accepts (declared-plan-of f))
+unfolding judged judge-rows opening declared-plan-of
+accepted-rules f =
+    let n = body-count f - 1 in
+    let passes = each-accepts (λ b. pass-rows f (suc b)) n in
+    let rules = all-table (Rules (arrays-of f)) (λ b. pass-at f (suc b)) n in (
+      λ e.
+          let q = passed (open-rows f) _ (sym e) in
+          let s = skipped _ _ _ _ (q .1) in
+          let k = eqb-true (kind-of f) 1 (not-false _ (s .0)) in
+          (sym (q .0), k, rules .1 (λ b l. pass-accepts f (q .0) k (suc b) (omega arith) (omega arith) .0 (passes .0 (s .1) b l))),
+      λ w. sym (judged-passes f (sym (w .0)) (w .1) Accepted (passes .1 (λ b l. pass-accepts f (sym (w .0)) (w .1) (suc b) (omega arith) (omega arith) .1 (rules .0 (w .2) b l)))),
+    )

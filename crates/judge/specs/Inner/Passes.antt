@@ -1,0 +1,52 @@
+-- No promise of an entry point rests on this text: where a pass stands, and its declarations by array.
+use Prim.Native.Nat.{ℕ, zero, suc, _+_, _≤_, _<_}
+use mathlib.Core.Path.{_≡_}
+use mathlib.Core.Bool.{Bool, cond, not, _&&_, _||_}
+use mathlib.Core.List.{List, [], _∷_}
+use lib.Dec.{eqb}
+use Rattle.model.specs.declared.Verdict.the-variants.{Accepted}
+use Rattle.format.specs.declared.Fields.{Fields}
+use Rattle.format.specs.Rows.{Row, row, first, each}
+use Rattle.format.specs.Bytes.{kind-of, body-count, table, records-in, declarations-in, first-record, fields-at}
+use Rattle.format.specs.Opening.{between, opening}
+use Rattle.judge.specs.declared.Declared.{Declared}
+use Rattle.judge.specs.declared.Extent.{Extent}
+use Rattle.judge.specs.Judged.{record-rows}
+
+-- the file opens as a declared plan, and its pass of that number stands there
+pub record PassAt (f : List ℕ) (e : Extent) : Type 0 where
+  pub opens : Accepted ≡ opening f
+  pub declared : kind-of f ≡ 1
+  pub low : 1 ≤ e .body
+  pub high : e .body < body-count f
+  pub from-is : e .from ≡ first-record f (e .body)
+  pub declarations-are : e .declarations ≡ declarations-in f (e .body)
+  pub records-are : e .records ≡ records-in f (e .body)
+
+-- a field of the last declaration of array a among the n declarations from record r on; 0 where there is none
+unfoldable pub declared-field : (Fields → ℕ) → List ℕ → ℕ → ℕ → ℕ → ℕ
+declared-field field f r zero a = 0
+declared-field field f r (suc n) a = cond (eqb (fields-at f (r + n) .array) a) (field (fields-at f (r + n))) (declared-field field f r n a)
+
+abbrev pub kinds-of : List ℕ → ℕ → ℕ → List ℕ
+kinds-of f r n = table (declared-field (λ x. x .kind) f r n) 32
+
+abbrev pub sides-of : List ℕ → ℕ → ℕ → List ℕ
+sides-of f r n = table (declared-field (λ x. x .side) f r n) 32
+
+-- no array of the pass is declared twice, and these are its declarations by array
+pub record ByArray (f : List ℕ) (e : Extent) (d : Declared) : Type 0 where
+  pub once : Accepted ≡ first (each (e .declarations) (record-rows f (e .body)))
+  pub kinds-are : d .kinds ≡ kinds-of f (e .from) (e .declarations)
+  pub sides-are : d .sides ≡ sides-of f (e .from) (e .declarations)
+
+-- whether a read or write with the fields x is declared, where the declaration of its array has this kind and this side
+unfoldable pub permitted : Fields → ℕ → ℕ → Bool
+permitted x kind side = ((eqb (x .kind) 1 && eqb kind 16) || (eqb (x .kind) 2 && eqb kind 17) || eqb kind 18) && eqb side (x .side)
+
+-- numbers 13 and 14 of record r with the fields x
+unfoldable pub use-rows : ℕ → Fields → ℕ → ℕ → List Row
+use-rows r x kind side =
+    row (between 1 2 (x .kind) && not (permitted x kind side)) 13 r
+    ∷ row (between 3 5 (x .kind)) 14 r
+    ∷ []

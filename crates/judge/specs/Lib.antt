@@ -1,0 +1,3 @@
+-- What the judge answers.
+pub mod Judged
+pub mod Inner
