@@ -1,0 +1,57 @@
+-- The expander's answers: the judge's, 16, 17, accepted; and what the output then is.
+use mathlib.Core.Path.{_≡_, refl, ap, _∙_}
+use mathlib.Core.List.{List}
+use Prim.Native.Nat.{ℕ, _<_, _≤_}
+use native.Mathlib.Omega.{arith}
+use lib.ListN.{length}
+use borrow.Author.Tests.{lt-ltb, le-ltb, eqb-true, not-false}
+use Rattle.model.specs.declared.Verdict.{Verdict}
+use Rattle.model.specs.declared.Verdict.the-variants.{Accepted, Stopped, Refused}
+use Rattle.model.specs.Blocks.{size}
+use Rattle.format.specs.Opening.{open-rows, opening}
+use Rattle.format.proofs.Laws.Rows.{holds, skips, skipped, empty, stop, pass, passed}
+use Rattle.judge.specs.Judged.{judge-rows, judged}
+use Rattle.expand.specs.Expanded.{expansion-of, expansion-file, expand-answer, written, expanded}
+use Rattle.expand.specs.Inner.Parts.{DeclaredFile, over}
+
+module _ (f : List ℕ) where
+  -- a plan that the judge accepts opens as a declared plan
+  pub accepted-file : Accepted ≡ judged f → DeclaredFile f
+  unfolding judged judge-rows opening
+  accepted-file e =
+      let p = passed (open-rows f) _ e in
+      record { opened = p .0; kind = eqb-true _ _ (not-false _ (skipped _ _ _ _ (p .1) .0)) }
+
+  module _ (out : List ℕ) where
+    -- a refusal leaves the output as it was
+    kept : (v : Verdict) → (v ≡ Accepted → ⊥) → v ≡ expand-answer f out → out ≡ expanded f out
+    unfolding expanded
+    kept v nay e = unwritten v nay ∙ ap (written f out) e
+      where
+        unwritten : (v : Verdict) → (v ≡ Accepted → ⊥) → out ≡ written f out v
+        unwritten Accepted nay = absurd (nay refl)
+        unwritten (Stopped r c) nay = refl
+        unwritten (Refused number place) nay = refl
+
+    refused : {n p : ℕ} → Refused n p ≡ Accepted → ⊥
+    refused h = let z : _≡_ {A = ℕ} 0 1 = cc in omega arith
+
+    pub judge-refuses : (v : Verdict) → (v ≡ Accepted → ⊥) → v ≡ judged f → (v ≡ expand-answer f out) × (out ≡ expanded f out)
+    unfolding judged expand-answer
+    judge-refuses v nay e = let a = stop (judge-rows f) _ v nay e in (a, kept v nay a)
+
+    module _ (accepted : Accepted ≡ judged f) where
+      pub too-large : 1024 < size (expansion-of f .body) → (Refused 16 0 ≡ expand-answer f out) × (out ≡ expanded f out)
+      unfolding judged expand-answer
+      too-large h = let a = pass (judge-rows f) _ _ accepted (holds _ _ _ _ (lt-ltb _ _ h)) in (a, kept (Refused 16 0) refused a)
+
+      module _ (fits : size (expansion-of f .body) ≤ 1024) where
+        pub too-short : length out < length (expansion-file f) → (Refused 17 0 ≡ expand-answer f out) × (out ≡ expanded f out)
+        unfolding judged expand-answer
+        too-short h = let a = pass (judge-rows f) _ _ accepted (skips _ _ _ _ _ (le-ltb _ _ fits) (holds _ _ _ _ (lt-ltb _ _ h))) in (a, kept (Refused 17 0) refused a)
+
+        pub expands : length (expansion-file f) ≤ length out → (new : List ℕ) → new ≡ over (expansion-file f) out → (Accepted ≡ expand-answer f out) × (new ≡ expanded f out)
+        unfolding judged expand-answer expanded over
+        expands h new e =
+            let a = pass (judge-rows f) _ _ accepted (skips _ _ _ _ _ (le-ltb _ _ fits) (skips _ _ _ _ _ (le-ltb _ _ h) empty)) in
+            (a, e ∙ ap (written f out) a)

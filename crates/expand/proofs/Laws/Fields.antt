@@ -1,0 +1,92 @@
+-- The fields of a record that passes its tests, as its block has them.
+use mathlib.Core.Path.{_≡_, refl, sym, _∙_}
+use mathlib.Core.Bool.{Bool, true, _&&_}
+use mathlib.Core.List.{List}
+use Prim.Native.Nat.{ℕ, _≤_, _<_}
+use native.Nat.{ℕᴺ-discrete}
+use native.Mathlib.Omega.{arith}
+use lib.Dec.{ltb, leb, eqb}
+use borrow.Author.Tests.{ltb-true, leb-true, eqb-true, eq-eqb, ne-eqb}
+use Rattle.model.proofs.Booleans.{and-out}
+use Rattle.format.specs.declared.Fields.{Fields}
+use Rattle.format.specs.Bytes.{array-count, body-count, length-at}
+use Rattle.format.specs.Opening.{fields-fit, first-arm, second-arm}
+use Rattle.format.specs.Plans.{side-of, action-of}
+use Rattle.format.specs.Files.{side-number, fields, action-fields}
+use Rattle.format.proofs.Laws.Ranges.{in-range}
+use Rattle.format.proofs.Laws.Fields.{Sizes, fit-cells, fit-array, fit-declaration, fit-branch, fit-loop, fit-call}
+
+pub side-again : (s : ℕ) → s < 2 → side-number (side-of s) ≡ s
+side-again s h = elim (ℕᴺ-discrete s 0) [
+  | yes z ↦ rw z
+  | no z ↦ let e : s ≡ 1 = omega arith in rw e
+]
+
+-- "Unused fields are zero"
+pub fields-are : (x : Fields) (kind side array p q : ℕ) → x .kind ≡ kind → x .side ≡ side → x .array ≡ array → x .zero ≡ 0 → x .p ≡ p → x .q ≡ q → x ≡ fields kind side array p q
+fields-are x kind side array p q e0 e1 e2 e3 e4 e5 = λ j. record { kind = e0 j; side = e1 j; array = e2 j; zero = e3 j; p = e4 j; q = e5 j }
+
+module _ (f : List ℕ) (x : Fields) (fits : fields-fit f x ≡ true) where
+  sizes : Sizes f x (array-count f) (body-count f) (length-at f (x .array))
+  sizes = record { arrays-are = refl; bodies-are = refl; size-is = refl }
+
+  -- what kinds 1 to 5 and 16 to 18 have in common
+  on-side : (b c : Bool) → (ltb (x .side) 2 && ltb (x .array) (array-count f) && eqb (x .zero) 0 && b && c) ≡ true → (x .side < 2) × (x .zero ≡ 0) × (b ≡ true) × (c ≡ true)
+  on-side b c e =
+      let w₁ = and-out (ltb (x .side) 2 && ltb (x .array) (array-count f) && eqb (x .zero) 0 && b) c e in
+      let w₂ = and-out (ltb (x .side) 2 && ltb (x .array) (array-count f) && eqb (x .zero) 0) b (w₁ .0) in
+      let w₃ = and-out (ltb (x .side) 2 && ltb (x .array) (array-count f)) (eqb (x .zero) 0) (w₂ .0) in
+      let w₄ = and-out (ltb (x .side) 2) (ltb (x .array) (array-count f)) (w₃ .0) in
+      (ltb-true _ _ (w₄ .0), eqb-true _ _ (w₃ .1), w₂ .1, w₁ .1)
+
+  pub declaration-side : 16 ≤ x .kind → x .kind ≤ 18 → x .side < 2
+  declaration-side h k = on-side _ _ (fit-declaration f x _ _ _ sizes h k ∙ fits) .0
+
+  cells-record : (kind : ℕ) → x .kind ≡ kind → 1 ≤ kind → kind ≤ 3 → fields kind (side-number (side-of (x .side))) (x .array) (x .p) (x .q) ≡ x
+  cells-record kind e h k =
+      let w = on-side _ _ (fit-cells f x _ _ _ sizes (omega arith) (omega arith) ∙ fits) in
+      sym (fields-are x _ _ _ _ _ e (sym (side-again (x .side) (w .0))) refl (w .1) refl refl)
+
+  array-record : (kind : ℕ) → x .kind ≡ kind → 4 ≤ kind → kind ≤ 5 → fields kind (side-number (side-of (x .side))) (x .array) 0 0 ≡ x
+  array-record kind e h k =
+      let w = on-side _ _ (fit-array f x _ _ _ sizes (omega arith) (omega arith) ∙ fits) in
+      sym (fields-are x _ _ _ _ _ e (sym (side-again (x .side) (w .0))) refl (w .1) (eqb-true _ _ (w .2)) (eqb-true _ _ (w .3)))
+
+  -- "1 read, 2 write, 3 copy .. 4 need, 5 mark"
+  pub action-again : 1 ≤ x .kind → x .kind ≤ 5 → action-fields (action-of x) ≡ x
+  unfolding action-of
+  action-again h k = elim (ℕᴺ-discrete (x .kind) 1) [
+    | yes e ↦ simp (eq-eqb (x .kind) 1 e) (cells-record 1 e (omega arith) (omega arith))
+    | no n₁ ↦ elim (ℕᴺ-discrete (x .kind) 2) [
+      | yes e ↦ simp (ne-eqb (x .kind) 1 n₁, eq-eqb (x .kind) 2 e) (cells-record 2 e (omega arith) (omega arith))
+      | no n₂ ↦ elim (ℕᴺ-discrete (x .kind) 3) [
+        | yes e ↦ simp (ne-eqb (x .kind) 1 n₁, ne-eqb (x .kind) 2 n₂, eq-eqb (x .kind) 3 e) (cells-record 3 e (omega arith) (omega arith))
+        | no n₃ ↦ elim (ℕᴺ-discrete (x .kind) 4) [
+          | yes e ↦ simp (ne-eqb (x .kind) 1 n₁, ne-eqb (x .kind) 2 n₂, ne-eqb (x .kind) 3 n₃, eq-eqb (x .kind) 4 e) (array-record 4 e (omega arith) (omega arith))
+          | no n₄ ↦ simp (ne-eqb (x .kind) 1 n₁, ne-eqb (x .kind) 2 n₂, ne-eqb (x .kind) 3 n₃, ne-eqb (x .kind) 4 n₄) (array-record 5 (omega arith) (omega arith) (omega arith))
+        ]
+      ]
+    ]
+  ]
+
+  -- "6 branch: P records of the first arm, then Q of the second. 7 loop: P records."
+  pub nested-again : 6 ≤ x .kind → x .kind ≤ 7 → x ≡ fields (x .kind) 0 0 (first-arm x) (second-arm x)
+  unfolding first-arm second-arm
+  nested-again h k = elim (ℕᴺ-discrete (x .kind) 6) [
+    | yes e ↦
+        let w₁ = and-out (eqb (x .side) 0 && eqb (x .array) 0) (eqb (x .zero) 0) (fit-branch f x _ _ _ sizes e ∙ fits) in
+        let w₂ = and-out (eqb (x .side) 0) (eqb (x .array) 0) (w₁ .0) in
+        simp (in-range 6 7 (x .kind) h k, eq-eqb (x .kind) 6 e) (fields-are x _ _ _ _ _ refl (eqb-true _ _ (w₂ .0)) (eqb-true _ _ (w₂ .1)) (eqb-true _ _ (w₁ .1)) refl refl)
+    | no n ↦
+        let w₀ = and-out (eqb (x .side) 0 && eqb (x .array) 0 && eqb (x .zero) 0) (eqb (x .q) 0) (fit-loop f x _ _ _ sizes (omega arith) ∙ fits) in
+        let w₁ = and-out (eqb (x .side) 0 && eqb (x .array) 0) (eqb (x .zero) 0) (w₀ .0) in
+        let w₂ = and-out (eqb (x .side) 0) (eqb (x .array) 0) (w₁ .0) in
+        simp (in-range 6 7 (x .kind) h k, ne-eqb (x .kind) 6 n) (fields-are x _ _ _ _ _ refl (eqb-true _ _ (w₂ .0)) (eqb-true _ _ (w₂ .1)) (eqb-true _ _ (w₁ .1)) refl (eqb-true _ _ (w₀ .1)))
+  ]
+
+  -- "8 call: P is a body, 1 to the last."
+  pub call-body : x .kind ≡ 8 → (1 ≤ x .p) × (x .p < body-count f)
+  call-body e =
+      let none = eqb (x .side) 0 && eqb (x .array) 0 && eqb (x .zero) 0 && eqb (x .q) 0 in
+      let w₁ = and-out (none && leb 1 (x .p)) (ltb (x .p) (body-count f)) (fit-call f x _ _ _ sizes e ∙ fits) in
+      (leb-true _ _ (and-out none (leb 1 (x .p)) (w₁ .0) .1), ltb-true _ _ (w₁ .1))

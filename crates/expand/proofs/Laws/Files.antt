@@ -1,0 +1,111 @@
+-- The expansion's file, part by part: header, array lengths, the entry of its body, the records, the check bytes.
+use mathlib.Core.Path.{_≡_, refl, sym, ap, _∙_}
+use mathlib.Core.List.{List, [], _∷_, _++_, append-assoc, append-nil}
+use Prim.Native.Nat.{ℕ, _+_, _*_, _-_, _≤_, _<_}
+use native.Mathlib.Omega.{arith}
+use lib.ListN.{length, take, drop, length-append, length-drop}
+use lib.Seq.{length-take-le}
+use borrow.Rule.Slice.PartMut.{midOf, putMid}
+use Rattle.model.specs.Sides.{Arrays}
+use Rattle.format.specs.declared.Fields.{Fields}
+use Rattle.format.specs.Bytes.{byte-at, array-count, length-at, arrays-of, entry-at, records-in}
+use Rattle.format.specs.Sums.{check-bytes}
+use Rattle.format.specs.Plans.{declared-plan-of}
+use Rattle.format.specs.Files.{u16-bytes, record-bytes, Body, joined, front, file}
+use Rattle.format.proofs.Laws.Tables.{length-table}
+use Rattle.format.proofs.Walking.{opened-facts}
+use Rattle.format.proofs.RoundTrip.{plain-length}
+use Rattle.expand.specs.Expanded.{expansion-of, expansion-file}
+use Rattle.expand.specs.Inner.Parts.{DeclaredFile, over, bytes-of, place, pieces}
+use Rattle.expand.proofs.Laws.Over.{over-lent, over-again, over-front}
+use Rattle.expand.proofs.Laws.Blocks.{bytes-length}
+use Rattle.expand.proofs.Laws.Bytes.{lengths-again}
+use Rattle.expand.proofs.Laws.Pieces.{pieces-length, expansion-fields, expansion-size}
+
+-- header and array lengths, with the entry of the body, with the records
+unfoldable pub lengths-written : List ℕ → List ℕ
+lengths-written f = (2 ∷ array-count f ∷ 1 ∷ 0 ∷ []) ++ take (2 * array-count f) (drop 4 f)
+
+unfoldable pub contents-written : List ℕ → List ℕ
+contents-written f = lengths-written f ++ (u16-bytes (place f (records-in f 0)) ++ (0 ∷ 0 ∷ []))
+
+unfoldable pub records-written : List ℕ → List ℕ
+records-written f = contents-written f ++ bytes-of (pieces f (records-in f 0))
+
+-- the file of a plan of so many arrays and records
+module _ (arrays : Arrays) (l : List Fields) where
+  abbrev body : Body
+  body = record { declarations = 0; records = l }
+
+  abbrev summed : List ℕ
+  summed = (((2 ∷ length arrays ∷ 1 ∷ 0 ∷ []) ++ joined u16-bytes arrays) ++ (u16-bytes (length l) ++ (0 ∷ 0 ∷ []))) ++ bytes-of l
+
+  plain-summed : summed ≡ front 2 arrays (body ∷ []) ++ joined (λ (b : Body). joined record-bytes (b .records)) (body ∷ [])
+  unfolding bytes-of
+  plain-summed = simp (append-nil, append-assoc)
+
+  plain-whole : summed ++ check-bytes summed ≡ file 2 arrays (body ∷ [])
+  unfolding file
+  plain-whole = ap (λ (s : List ℕ). s ++ check-bytes s) plain-summed
+
+module _ (f : List ℕ) (given : DeclaredFile f) where
+  pub arrays-low : array-count f ≤ 32
+  arrays-low = opened-facts f (given .opened) .bounds .header .arrays .1
+
+  pub contents-within : 4 + 2 * array-count f ≤ length f
+  unfolding entry-at
+  contents-within = omega (arith, opened-facts f (given .opened) .bounds .long)
+
+  counted : length (arrays-of f) ≡ array-count f
+  unfolding arrays-of
+  counted = length-table (length-at f) (array-count f)
+
+  pub expansion-length : length (expansion-file f) ≡ 4 + 2 * array-count f + 4 + 8 * place f (records-in f 0) + 2
+  unfolding declared-plan-of
+  expansion-length = plain-length (expansion-of f) ∙ omega (arith, counted, expansion-size f given)
+
+  pub lengths-length : length (lengths-written f) ≡ 4 + 2 * array-count f
+  unfolding lengths-written
+  lengths-length =
+      let n : 2 * array-count f ≤ length (drop 4 f) = simp length-drop (omega (arith, contents-within)) in
+      omega (arith, length-take-le (2 * array-count f) (drop 4 f) n)
+
+  pub contents-length : length (contents-written f) ≡ 4 + 2 * array-count f + 4
+  unfolding contents-written
+  contents-length = omega (arith, length-append (lengths-written f) (u16-bytes (place f (records-in f 0)) ++ (0 ∷ 0 ∷ [])), lengths-length)
+
+  pub records-length : length (records-written f) ≡ 4 + 2 * array-count f + 4 + 8 * place f (records-in f 0)
+  unfolding records-written
+  records-length = omega (arith, length-append (contents-written f) (bytes-of (pieces f (records-in f 0))), contents-length, bytes-length (pieces f (records-in f 0)), pieces-length f (records-in f 0))
+
+  written-is : ((i : ℕ) → byte-at f i < 256) → records-written f ≡ summed (arrays-of f) (pieces f (records-in f 0))
+  unfolding records-written contents-written lengths-written
+  written-is small = rw (counted, lengths-again f small contents-within, pieces-length f (records-in f 0))
+
+  file-is : ((i : ℕ) → byte-at f i < 256) → records-written f ++ check-bytes (records-written f) ≡ expansion-file f
+  unfolding declared-plan-of
+  file-is small =
+      ap (λ (s : List ℕ). s ++ check-bytes s) (written-is small)
+      ∙ plain-whole (arrays-of f) (pieces f (records-in f 0))
+      ∙ ap (λ (l : List Fields). file 2 (arrays-of f) (record { declarations = 0; records = l } ∷ [])) (sym (expansion-fields f given))
+
+  -- what each writer leaves
+  module _ (old xs ys : List ℕ) where
+    pub lengths-over : (arrays : ℕ) → arrays ≡ array-count f → 4 ≤ length old → xs ≡ over (2 ∷ arrays ∷ 1 ∷ 0 ∷ []) old → ys ≡ over (take (4 + 2 * arrays - 4) (drop 4 f)) (midOf 4 (length xs - 4) xs) → putMid 4 (length xs - 4) xs ys ≡ over (lengths-written f) old
+    unfolding lengths-written
+    lengths-over arrays e h w v =
+        let n : 4 + 2 * arrays - 4 ≡ 2 * array-count f = omega arith in
+        over-lent _ _ old xs ys 4 w refl h v ∙ rw (n, e)
+
+    pub contents-over : (at records : ℕ) → at ≡ 4 + 2 * array-count f → records ≡ place f (records-in f 0) → at ≤ length old → xs ≡ over (lengths-written f) old → ys ≡ over (u16-bytes records ++ (0 ∷ 0 ∷ [])) (midOf at (length xs - at) xs) → putMid at (length xs - at) xs ys ≡ over (contents-written f) old
+    unfolding contents-written
+    contents-over at records e n h w v = over-lent _ _ old xs ys at w (lengths-length ∙ sym e) h v ∙ rw n
+
+    pub records-over : (at end : ℕ) → at ≡ 4 + 2 * array-count f + 4 → end ≡ records-in f 0 → at ≤ length old → xs ≡ over (contents-written f) old → ys ≡ over (bytes-of (pieces f end)) (midOf at (length xs - at) xs) → putMid at (length xs - at) xs ys ≡ over (records-written f) old
+    unfolding records-written
+    records-over at end e n h w v = over-lent _ _ old xs ys at w (contents-length ∙ sym e) h v ∙ rw n
+
+    pub file-over : ((i : ℕ) → byte-at f i < 256) → (n : ℕ) → n ≡ 4 + 2 * array-count f + 4 + 8 * place f (records-in f 0) → xs ≡ over (records-written f) old → ys ≡ over (take n xs ++ check-bytes (take n xs)) xs → ys ≡ over (expansion-file f) old
+    file-over small n e w v =
+        let m : n ≡ length (records-written f) = e ∙ sym records-length in
+        v ∙ rw (w, m, over-front (records-written f) old, over-again (records-written f) (check-bytes (records-written f)) old, file-is small)

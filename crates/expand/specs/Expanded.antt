@@ -1,0 +1,39 @@
+-- Numbers 16 and 17, and the expansion's file (document 01, 'Judging and expanding').
+use Prim.Native.Nat.{ℕ}
+use mathlib.Core.List.{List, [], _∷_, _++_}
+use lib.ListN.{length, drop}
+use lib.Dec.{ltb}
+use Rattle.model.specs.declared.Verdict.{Verdict}
+use Rattle.model.specs.declared.Verdict.the-variants.{Accepted, Stopped, Refused}
+use Rattle.model.specs.Blocks.{size, Plan}
+use Rattle.model.specs.Expanding.{expansion}
+use Rattle.format.specs.Rows.{row, first}
+use Rattle.format.specs.Plans.{declared-plan-of}
+use Rattle.format.specs.Files.{plain-file}
+use Rattle.judge.specs.Judged.{judge-rows}
+
+-- the expansion of the plan that a file is, and its file
+abbrev pub expansion-of : List ℕ → Plan
+expansion-of f = expansion (declared-plan-of f)
+
+abbrev pub expansion-file : List ℕ → List ℕ
+expansion-file f = plain-file (expansion-of f)
+
+-- the judge's numbers, then "16 expansion over 1,024 records; 17 output shorter than the expansion's file"
+unfoldable pub expand-answer : List ℕ → List ℕ → Verdict
+expand-answer f out =
+    first
+    (judge-rows f
+    ++ (row (ltb 1024 (size (expansion-of f .body))) 16 0
+    ∷ row (ltb (length out) (length (expansion-file f))) 17 0
+    ∷ []))
+
+-- "bytes past the file's end are untouched"; numbers 1 to 17 "change no buffer"
+abbrev pub written : List ℕ → List ℕ → Verdict → List ℕ
+written f out Accepted = expansion-file f ++ drop (length (expansion-file f)) out
+written f out (Stopped r c) = out
+written f out (Refused number place) = out
+
+-- the output afterwards
+unfoldable pub expanded : List ℕ → List ℕ → List ℕ
+expanded f out = written f out (expand-answer f out)

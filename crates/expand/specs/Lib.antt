@@ -1,0 +1,3 @@
+-- What the expander answers and writes.
+pub mod Expanded
+pub mod Inner
