@@ -17,4 +17,11 @@ uint64_t plan_body_view(const uint8_t *plan, size_t plan_length, uint64_t body);
 /* Checks a plain plan over all its runs: 0 accepted; 18 with the record and the cell where a run may stop; 1 to 11. Packed as by plan_open. */
 uint64_t plan_check(const uint8_t *plan, size_t plan_length);
 
+/* Judges a declared plan: 0 accepted; 1 to 15 with the place. Packed as by plan_open. */
+uint64_t plan_judge(const uint8_t *plan, size_t plan_length);
+
+/* Expands a declared plan into the file of a plain one: 0 accepted, the file stands at the front of the output; 1 to 17 with the place, and the
+   output is as it was. Bytes past the file are not touched. Packed as by plan_open. */
+uint64_t plan_expand(const uint8_t *plan, size_t plan_length, uint8_t *out, size_t out_length);
+
 #endif

@@ -3,7 +3,6 @@
 
 use cuplihang_tests::generate::*;
 use cuplihang_tests::walker::plancheck::line;
-use cuplihang_tests::walker::{self, FileKind};
 use std::io::Write;
 use std::process::{Command, Stdio};
 
@@ -17,16 +16,8 @@ fn program_line(file: &[u8]) -> String {
     String::from_utf8(output.stdout).expect("a line of decimals")
 }
 
-/// A declared plan is only opened until the judge is there.
-fn expected(file: &[u8]) -> String {
-    match walker::open(file) {
-        Ok(plan) if plan.kind == FileKind::Declared => "1 0 0 0\n".to_string(),
-        _ => line(file),
-    }
-}
-
 fn match_line(file: &[u8]) {
-    assert_eq!(program_line(file), expected(file), "{:02X?}", &file[..file.len().min(400)]);
+    assert_eq!(program_line(file), line(file), "{:02X?}", &file[..file.len().min(400)]);
 }
 
 #[test]

@@ -8,6 +8,8 @@ use Rattle.model.specs.Verdicts.{values-of}
 use Rattle.format.specs.Opened.{opened}
 use Rattle.format.specs.Views.{body-part}
 use Rattle.checker.specs.Checking.{Checks}
+use Rattle.judge.specs.Judged.{judged}
+use Rattle.expand.specs.Expanded.{expand-answer}
 
 -- number in bits 0 to 15, place or record in 16 to 31, cell in 32 to 47, the file's kind (0 if it does not open) in 48 to 55
 abbrev pub packed : ℕ → Values → ℕ
@@ -26,3 +28,11 @@ pub record PackedCheck (f : List ℕ) (r : ℕ) : Type 0 where
   pub answer : Verdict
   pub checks : Checks f answer
   pub packs : r ≡ packed (opened f .kind) (values-of 18 answer)
+
+-- the answer of `plan_judge`
+unfoldable pub packed-judge : List ℕ → ℕ
+packed-judge f = packed (opened f .kind) (values-of 0 (judged f))
+
+-- the answer of `plan_expand`, to which an output is lent
+unfoldable pub packed-expand : List ℕ → List ℕ → ℕ
+packed-expand f out = packed (opened f .kind) (values-of 0 (expand-answer f out))

@@ -1,6 +1,7 @@
 // The functions for C and Rust: include/cuplihang.h declares them.
 ghost use mathlib.Core.Path.{_≡_};
-ghost use Rattle.exports.specs.Packed.{packed, packed-opening, packed-body-view, PackedCheck};
+ghost use Rattle.exports.specs.Packed.{packed, packed-opening, packed-body-view, PackedCheck, packed-judge, packed-expand};
+ghost use Rattle.expand.specs.Expanded.{expanded};
 use model::Values;
 
 // A packed answer: number, place or record, cell, kind.
@@ -51,4 +52,28 @@ pub extern "C" fn plan_check(plan: &[u8]) -> u64
     let kind = o.kind;
     let v = checker::check_opened(plan, o);
     pack(kind, model::values_of(v, 18))
+}
+
+// Judges a plan.
+#[no_mangle]
+pub extern "C" fn plan_judge(plan: &[u8]) -> u64
+    ensures { λ r. ⌜ r ≡ packed-judge (now (plan .entry)) ⌝ }
+{
+    let o = format::open(plan);
+    let kind = o.kind;
+    let v = judge::judge_opened(plan, o);
+    pack(kind, model::values_of(v, 0))
+}
+
+// Expands a plan into the output.
+#[no_mangle]
+pub extern "C" fn plan_expand(plan: &[u8], out: &mut [u8]) -> u64
+    ensures answer { λ r. ⌜ r ≡ packed-expand (now (plan .entry)) (now (out .entry)) ⌝ }
+    ensures output { λ _. ⌜ now (out .exit) ≡ expanded (now (plan .entry)) (now (out .entry)) ⌝ }
+{
+    let o = format::open(plan);
+    let kind = o.kind;
+    let judged = judge::judge_opened(plan, o);
+    let v = expand::expand_judged(plan, out, judged);
+    pack(kind, model::values_of(v, 0))
 }

@@ -1,4 +1,4 @@
-// Reads a plan file from standard input, checks a plain plan and opens a declared one, and prints one line:
+// Reads a plan file from standard input, judges a declared plan, checks a plain one, and prints one line:
 // the file's kind (0 if it does not open), the answer (0 accepted), place or record, cell.
 ghost use Rattle.plancheck.specs.Lines.{LineOf};
 use libc::STDIN_FILENO;
@@ -27,10 +27,10 @@ fn line_of(plan: &[u8]) -> Line
             values: model::values_of(checked, 18),
         };
     }
-    let v = o.verdict;
+    let judged = judge::judge_opened(plan, o);
     Line {
         kind: kind,
-        values: model::values_of(v, 18),
+        values: model::values_of(judged, 18),
     }
 }
 

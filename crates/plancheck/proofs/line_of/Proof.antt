@@ -1,4 +1,4 @@
--- `plancheck::line_of` gives the line of a plan: the check's answer of a plain one, the opening's of any other.
+-- `plancheck::line_of` gives the line of a plan: the check's answer of a plain one, the judge's of any other.
 use mathlib.Core.Path.{sym, ap, _∙_}
 use borrow.Author.Needs.{needs}
 use borrow.Author.Tests.{eq-eqb, ne-eqb}
@@ -22,14 +22,17 @@ returns c = record {
   values = c .values-of .ensures;
 }
 
+judge-opened-requires : tie.Need-judge-opened-requires
+judge-opened-requires c κs = search needs
+
 values-of-requires-2 : tie.Need-values-of-requires-2
 values-of-requires-2 c κs = search needs
 
 returns-2 : tie.Need-returns-2
 returns-2 c = record {
-  answer = c .before .before .«open» .result .verdict;
-  answers = rw (ne-eqb _ _ (λ e. c .before .if1 .left (ap (λ o. o .kind) (c .before .before .«open» .ensures) ∙ e))) (ap (λ o. o .verdict) (c .before .before .«open» .ensures));
-  kind = ap (λ o. o .kind) (c .before .before .«open» .ensures);
+  answer = c .before .judge-opened .result;
+  answers = rw (ne-eqb _ _ (λ e. c .before .before .if1 .left (ap (λ o. o .kind) (c .before .before .before .«open» .ensures) ∙ e))) (c .before .judge-opened .ensures);
+  kind = ap (λ o. o .kind) (c .before .before .before .«open» .ensures);
   values = c .values-of2 .ensures;
 }
 
@@ -41,5 +44,6 @@ line-of-spec =
     check-opened-requires
     values-of-requires
     returns
+    judge-opened-requires
     values-of-requires-2
     returns-2)
