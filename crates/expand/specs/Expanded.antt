@@ -12,10 +12,11 @@ use Rattle.format.specs.Plans.{declared-plan-of}
 use Rattle.format.specs.Files.{plain-file}
 use Rattle.judge.specs.Judged.{judge-rows}
 
--- the expansion of the plan that a file is, and its file
+-- the expansion of the plan that a file is
 abbrev pub expansion-of : List ℕ → Plan
 expansion-of f = expansion (declared-plan-of f)
 
+-- "the expansion's file": a plain plan's
 abbrev pub expansion-file : List ℕ → List ℕ
 expansion-file f = plain-file (expansion-of f)
 

@@ -24,6 +24,7 @@ arrays-fit arrays = between 1 32 (length arrays) && (all (between 1 4096) arrays
 abbrev pub cells-fit : Arrays → Cells → Bool
 cells-fit arrays x = ltb (x .array) (length arrays) && (ltb (x .p) (x .q) && leb (x .q) (length-of arrays (x .array)))
 
+-- the fields of kinds 1 to 5: cells of an array, or the array alone
 abbrev pub action-fits : Arrays → Action → Bool
 action-fits arrays (read s x) = cells-fit arrays x
 action-fits arrays (write s x) = cells-fit arrays x
@@ -59,9 +60,11 @@ pass-fits arrays p =
     leb (length (p .declarations)) 255
     && (all (λ (d : Declaration). ltb (d .array) (length arrays)) (p .declarations) && block-fits arrays 8 (p .body))
 
+-- the records of a pass, its declarations among them
 abbrev pub pass-size : Pass → ℕ
 pass-size p = length (p .declarations) + size (p .body)
 
+-- the records of all passes
 abbrev pub passes-size : List Pass → ℕ
 passes-size [] = 0
 passes-size (p ∷ ps) = pass-size p + passes-size ps
@@ -84,5 +87,6 @@ numbered-passes r (p ∷ ps) =
 abbrev pub numbered-plan : Plan → Plan
 numbered-plan plan = record { arrays = plan .arrays; body = numbered 0 (plan .body) }
 
+-- a declared plan as its file numbers its records: body 0 first, then the passes
 abbrev pub numbered-declared : DeclaredPlan → DeclaredPlan
 numbered-declared plan = record { arrays = plan .arrays; body0 = plan .body0; passes = numbered-passes (size0 (plan .body0)) (plan .passes) }

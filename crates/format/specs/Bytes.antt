@@ -5,6 +5,7 @@ use lib.ListN.{getD}
 use Rattle.model.specs.Sides.{Arrays, first-of}
 use Rattle.format.specs.declared.Fields.{Fields}
 
+-- byte i of the file, 0 past its end
 abbrev pub byte-at : List ℕ → ℕ → ℕ
 byte-at f i = getD f i 0
 
@@ -12,13 +13,15 @@ byte-at f i = getD f i 0
 unfoldable pub u16-at : List ℕ → ℕ → ℕ
 u16-at f i = byte-at f i + byte-at f (i + 1) * 256
 
--- "Byte 0: kind, 1 declared, 2 plain. Byte 1: arrays. Byte 2: bodies."
+-- "Byte 0: kind, 1 declared, 2 plain."
 abbrev pub kind-of : List ℕ → ℕ
 kind-of f = byte-at f 0
 
+-- "Byte 1: arrays"
 abbrev pub array-count : List ℕ → ℕ
 array-count f = byte-at f 1
 
+-- "Byte 2: bodies"
 abbrev pub body-count : List ℕ → ℕ
 body-count f = byte-at f 2
 
@@ -31,6 +34,7 @@ table g (suc n) = table g n ++ (g n ∷ [])
 unfoldable pub length-at : List ℕ → ℕ → ℕ
 length-at f a = u16-at f (4 + 2 * a)
 
+-- the lengths of all arrays
 unfoldable pub arrays-of : List ℕ → Arrays
 arrays-of f = table (length-at f) (array-count f)
 
@@ -38,22 +42,27 @@ arrays-of f = table (length-at f) (array-count f)
 unfoldable pub entry-at : List ℕ → ℕ → ℕ
 entry-at f b = 4 + 2 * array-count f + 4 * b
 
+-- "its records (two bytes ..)"
 abbrev pub records-in : List ℕ → ℕ → ℕ
 records-in f b = u16-at f (entry-at f b)
 
+-- "its declarations (one byte)"
 abbrev pub declarations-in : List ℕ → ℕ → ℕ
 declarations-in f b = byte-at f (entry-at f b + 2)
 
+-- "zero": the fourth byte
 abbrev pub last-of-entry : List ℕ → ℕ → ℕ
 last-of-entry f b = byte-at f (entry-at f b + 3)
 
--- "Records are numbered from 0 through all bodies in order": the records of each body, and the number of body b's first record
+-- "Records are numbered from 0 through all bodies in order": the records of each body
 unfoldable pub sizes-of : List ℕ → List ℕ
 sizes-of f = table (records-in f) (body-count f)
 
+-- the number of body b's first record
 abbrev pub first-record : List ℕ → ℕ → ℕ
 first-record f b = first-of (sizes-of f) b
 
+-- the records of all bodies
 abbrev pub record-count : List ℕ → ℕ
 record-count f = first-record f (body-count f)
 

@@ -22,6 +22,7 @@ abbrev pub side-number : Side → ℕ
 side-number host = 0
 side-number card = 1
 
+-- a record from its fields, the fourth byte zero
 abbrev pub fields : ℕ → ℕ → ℕ → ℕ → ℕ → Fields
 fields kind side array p q = record { kind = kind; side = side; array = array; zero = 0; p = p; q = q }
 
@@ -60,6 +61,7 @@ mode-kind R = 16
 mode-kind W = 17
 mode-kind RW = 18
 
+-- "side and array"
 abbrev pub declaration-fields : Declaration → Fields
 declaration-fields d = fields (mode-kind (d .mode)) (side-number (d .side)) (d .array) 0 0
 
@@ -92,6 +94,7 @@ file kind arrays bodies =
 abbrev pub plain-file : Plan → List ℕ
 plain-file plan = file 2 (plan .arrays) (record { declarations = 0; records = block-fields (plan .body) } ∷ [])
 
+-- a pass: "declarations first .. then kinds 1 to 7"
 abbrev pub pass-body : Pass → Body
 pass-body p = record { declarations = length (p .declarations); records = map declaration-fields (p .declarations) ++ block-fields (p .body) }
 

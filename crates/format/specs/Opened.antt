@@ -41,10 +41,12 @@ found f = record {
   declarations = table (λ b. cond (ltb b (body-count f)) (declarations-in f b) 0) 32;
 }
 
+-- what was found, by the opening's answer
 abbrev pub found-by : List ℕ → Verdict → Opened
 found-by f Accepted = found f
 found-by f (Stopped r c) = nothing-found (Stopped r c)
 found-by f (Refused number place) = nothing-found (Refused number place)
 
+-- the whole result of opening
 unfoldable pub opened : List ℕ → Opened
 opened f = found-by f (opening f)

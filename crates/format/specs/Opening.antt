@@ -91,10 +91,11 @@ allowed f b r x =
     (cond (ltb r (first-record f b + declarations-in f b)) (between 16 18 (x .kind))
     (between 1 7 (x .kind))))
 
--- the records of the first and of the second arm, none where the kind has no such arm
+-- the records of the first arm, none where the kind has no arm
 unfoldable pub first-arm : Fields → ℕ
 first-arm x = cond (between 6 7 (x .kind)) (x .p) 0
 
+-- the records of the second arm, which a branch alone has
 unfoldable pub second-arm : Fields → ℕ
 second-arm x = cond (eqb (x .kind) 6) (x .q) 0
 

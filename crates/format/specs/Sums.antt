@@ -12,10 +12,11 @@ unfoldable pub weighted-sum : ℕ → List ℕ → ℕ
 weighted-sum k [] = 0
 weighted-sum k (x ∷ xs) = k * x + weighted-sum (suc k) xs
 
--- "with bytes numbered from 1 up to the check bytes, the sum of all bytes modulo 251, then the sum of number × byte modulo 251"
+-- "with bytes numbered from 1 up to the check bytes, the sum of all bytes modulo 251"
 abbrev pub first-check : List ℕ → ℕ
 first-check s = plain-sum s % 251
 
+-- "then the sum of number × byte modulo 251"
 abbrev pub second-check : List ℕ → ℕ
 second-check s = weighted-sum 1 s % 251
 

@@ -14,10 +14,11 @@ use Rattle.format.specs.Opening.{open-rows}
 unfoldable pub body-view-answer : List ℕ → ℕ → Verdict
 body-view-answer f b = first (open-rows f ++ (row (leb (body-count f) b) 25 0 ∷ []))
 
--- "the body comes back as the caller's own bytes": where they begin and how many they are
+-- "the body comes back as the caller's own bytes": where they begin
 abbrev pub body-at : List ℕ → ℕ → ℕ
 body-at f b = bodies-at f + 8 * first-record f b
 
+-- the bytes of body b
 abbrev pub body-bytes : List ℕ → ℕ → List ℕ
 body-bytes f b = take (8 * records-in f b) (drop (body-at f b) f)
 
@@ -27,6 +28,7 @@ viewed f b Accepted = body-bytes f b
 viewed f b (Stopped r c) = []
 viewed f b (Refused number place) = []
 
+-- the body view, whatever the bytes and the body number
 unfoldable pub body-view : List ℕ → ℕ → List ℕ
 body-view f b = viewed f b (body-view-answer f b)
 
@@ -36,5 +38,6 @@ part-by f b Accepted = record { verdict = Accepted; from = body-at f b; size = 8
 part-by f b (Stopped r c) = record { verdict = Stopped r c; from = 0; size = 0 }
 part-by f b (Refused number place) = record { verdict = Refused number place; from = 0; size = 0 }
 
+-- the answer and the part, whatever the bytes and the body number
 unfoldable pub body-part : List ℕ → ℕ → Part
 body-part f b = part-by f b (body-view-answer f b)

@@ -20,6 +20,7 @@ pub record Case : Type 0 where
 abbrev pub plan-of : Case → Plan
 plan-of row = record { arrays = row .cells ∷ []; body = numbered 0 (row .body) }
 
+-- a row from its three parts
 abbrev pub case : ℕ → Block → Verdict → Case
 case n b v = record { cells = n; body = b; answer = v }
 
@@ -32,6 +33,7 @@ infixr 60 _⨾_
 abbrev pub _⨾_ : Action → Block → Block
 x ⨾ b = act 0 x b
 
+-- "These twelve stand in one proved table", with the plan of 'Checkers that would nearly do' as a last row
 abbrev pub twelve : List Case
 twelve =
     -- "1 empty body: accepted."

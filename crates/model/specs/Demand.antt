@@ -57,11 +57,12 @@ executed R s a m l = record { action = need s a; copied = m } ∷ l
 executed W s a m l = record { action = mark s a; copied = m } ∷ l
 executed RW s a m l = record { action = mark s a; copied = false } ∷ (record { action = need s a; copied = m } ∷ l)
 
+-- those of all declarations made, the last one first
 abbrev pub executed-of : List Made → List Event
 executed-of [] = []
 executed-of (d ∷ l) = executed (d .declaration .mode) (d .declaration .side) (d .declaration .array) (d .copied) (executed-of l)
 
--- the needs and marks of a history
+-- whether a record is a need or a mark
 abbrev pub asks : Action → Bool
 asks (read s x) = false
 asks (write s x) = false
@@ -69,6 +70,7 @@ asks (copy s x) = false
 asks (need s a) = true
 asks (mark s a) = true
 
+-- the needs and marks of a history
 abbrev pub asked : List Event → List Event
 asked [] = []
 asked (e ∷ l) = cond (asks (e .action)) (e ∷ asked l) (asked l)

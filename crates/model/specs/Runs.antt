@@ -36,6 +36,7 @@ pub data Ending : Type 0 where
   stopped : ℕ → ℕ → Ending
   out-of-choices : ℕ → Ending
 
+-- a step leads on, or the run ends there
 pub data Step : Type 0 where
   next : Config → Step
   ends : Ending → Step
@@ -65,6 +66,7 @@ abbrev pub unmet-from : Arrays → Action → State → ℕ → ℕ → Option �
 unmet-from arrays x σ c zero = none
 unmet-from arrays x σ c (suc n) = cond (met arrays x σ c) (unmet-from arrays x σ (suc c) n) (some c)
 
+-- the lowest of all cells in which the need of a record is unmet, if there is one
 abbrev pub lowest-unmet : Arrays → Action → State → Option ℕ
 lowest-unmet arrays x σ = unmet-from arrays x σ 0 (cells arrays)
 

@@ -33,9 +33,11 @@ record-of n = cond (eqb n 65535) none (some n)
 abbrev pub goes-of : List ℕ → Test
 goes-of entries u v = bit (getD entries (index v) 0) (index u)
 
+-- entry u has the lowest record at which the cell can stop from status u
 abbrev pub stop-of : List ℕ → Status → Option ℕ
 stop-of stops u = record-of (getD stops (index u) 0)
 
+-- the summary of `model` that a stored one stands for
 unfoldable pub reading : Stored → Summary
 reading s = record { goes = goes-of (s .entries); stop = stop-of (s .stops) }
 
@@ -47,6 +49,7 @@ touched-met kind s u =
     (cond (eqb kind 4) (flag-on u s || current-on u (other s))
     true))
 
+-- the status that such a record leaves
 abbrev pub touched-after : ℕ → Side → Status → Status
 touched-after kind s u =
     cond (eqb kind 2) (status (λ t. is t s) (flag-on u))

@@ -22,9 +22,10 @@ pub record Walkable (f : List ℕ) (r end : ℕ) : Type 0 where
   pub depth : ℕ
   pub good : Good f body depth r end
 
--- the block of the records r up to `end`, and the part of body 0
+-- the block of the records r up to `end`
 unfoldable pub block-between : List ℕ → ℕ → ℕ → Block
 block-between f r end = block-of end (fields-at f) r end
 
+-- the part of body 0 that they are
 unfoldable pub body0-between : List ℕ → ℕ → ℕ → Body0
 body0-between f r end = body0-of end (fields-at f) r end

@@ -28,9 +28,11 @@ unfoldable pub declared-field : (Fields → ℕ) → List ℕ → ℕ → ℕ �
 declared-field field f r zero a = 0
 declared-field field f r (suc n) a = cond (eqb (fields-at f (r + n) .array) a) (field (fields-at f (r + n))) (declared-field field f r n a)
 
+-- the kind of the declaration of each array, 0 where it has none
 abbrev pub kinds-of : List ℕ → ℕ → ℕ → List ℕ
 kinds-of f r n = table (declared-field (λ x. x .kind) f r n) 32
 
+-- its side
 abbrev pub sides-of : List ℕ → ℕ → ℕ → List ℕ
 sides-of f r n = table (declared-field (λ x. x .side) f r n) 32
 
