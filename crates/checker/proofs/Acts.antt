@@ -1,134 +1,24 @@
--- A record of an opened plain plan that a walk has read: its kind and fields, the action that it is, and whether that touches a cell.
-use Prim.Native.Nat.{ℕ, _+_, _*_, _≤_, _<_}
+-- A record of kind 1 to 5 as the summaries see it: its kind, its side, and whether it touches a cell.
+use Prim.Native.Nat.{ℕ, _+_, _≤_}
 use mathlib.Core.Path.{_≡_, refl, sym, _∙_}
-use mathlib.Core.Bool.{true, _&&_, _||_, and-true}
-use mathlib.Core.List.{List}
-use native.Nat.{ℕᴺ-discrete}
-use native.Mathlib.Decide.{decLt}
-use native.Mathlib.Omega.{arith}
+use mathlib.Core.Bool.{_&&_, _||_, and-true}
 use lib.Dec.{eqb, leb, ltb}
-use lib.ListN.{length}
-use borrow.Author.Tests.{eq-eqb, ne-eqb, ltb-true, leb-true}
 use Rattle.model.specs.Sides.{Arrays, first-of, array-of}
-use Rattle.model.specs.Effects.{Action, read, write, copy, need, mark}
-use Rattle.model.proofs.Booleans.{and-out}
 use Rattle.format.specs.declared.Fields.{Fields}
-use Rattle.format.specs.Bytes.{kind-of, array-count, body-count, length-at, record-count, fields-at}
-use Rattle.format.specs.Opening.{fields-fit, allowed, first-arm, second-arm}
 use Rattle.format.specs.Plans.{side-of, action-of}
-use Rattle.format.specs.Inner.Walks.{Walkable}
-use Rattle.format.proofs.Laws.Ranges.{of-range}
-use Rattle.format.proofs.Laws.Fields.{Sizes, fit-cells, fit-array}
-use Rattle.format.proofs.Trees.{no-arms}
-use Rattle.format.proofs.Walking.{good-parts, opened-facts, Steps, steps}
-use Rattle.checker.specs.Inner.Walks.{Plain}
+use Rattle.format.proofs.Acts.{by-kind}
 use Rattle.checker.proofs.Touched as touched
 
-module _ (f : List ℕ) (bodies : ℕ) (w : Plain f bodies) where
-  -- a record stands inside the file
-  pub record-inside : (r : ℕ) → r < record-count f → bodies + 8 * r + 8 ≤ length f
-  record-inside r h = omega (arith, w .place, opened-facts f (w .opens) .bounds .long)
-
-  -- "A plain plan holds kinds 1 to 7"
-  plain-kind : (r end : ℕ) → r < end → Walkable f r end → (1 ≤ fields-at f r .kind) × (fields-at f r .kind ≤ 7)
-  unfolding allowed
-  plain-kind r end h g =
-      of-range 1 7 _ (rw (eq-eqb (kind-of f) 2 (w .kind)) at (good-parts f (g .body) (g .depth) r end h (g .good) .tests .allows))
-
--- fields that keep their rules
-module _ (f : List ℕ) (x : Fields) (e : fields-fit f x ≡ true) where
-  sizes : Sizes f x (array-count f) (body-count f) (length-at f (x .array))
-  sizes = record { arrays-are = refl; bodies-are = refl; size-is = refl }
-
-  abbrev on-array : Type 0
-  on-array = (x .side ≤ 1) × (x .array < array-count f)
-
-  -- "cells P to Q − 1 of the array, P < Q ≤ its length"
-  pub cells-fit : 1 ≤ x .kind → x .kind ≤ 3 → on-array × (x .p < x .q) × (x .q ≤ length-at f (x .array))
-  cells-fit h k =
-      let side = ltb (x .side) 2 in
-      let array = ltb (x .array) (array-count f) in
-      let w₁ = and-out (side && array && eqb (x .zero) 0 && ltb (x .p) (x .q)) _ (fit-cells f x _ _ _ sizes h k ∙ e) in
-      let w₂ = and-out (side && array && eqb (x .zero) 0) (ltb (x .p) (x .q)) (w₁ .0) in
-      let w₃ = and-out side array (and-out (side && array) (eqb (x .zero) 0) (w₂ .0) .0) in
-      ((omega (arith, ltb-true (x .side) 2 (w₃ .0)), ltb-true _ _ (w₃ .1)), ltb-true _ _ (w₂ .1), leb-true _ _ (w₁ .1))
-
-  array-fits : 4 ≤ x .kind → x .kind ≤ 5 → on-array
-  array-fits h k =
-      let side = ltb (x .side) 2 in
-      let array = ltb (x .array) (array-count f) in
-      let w₁ = and-out (side && array && eqb (x .zero) 0 && eqb (x .p) 0) _ (fit-array f x _ _ _ sizes h k ∙ e) in
-      let w₂ = and-out (side && array && eqb (x .zero) 0) (eqb (x .p) 0) (w₁ .0) in
-      let w₃ = and-out side array (and-out (side && array) (eqb (x .zero) 0) (w₂ .0) .0) in
-      (omega (arith, ltb-true (x .side) 2 (w₃ .0)), ltb-true _ _ (w₃ .1))
-
-  side-fits : 1 ≤ x .kind → x .kind ≤ 5 → x .side ≤ 1
-  side-fits h k = elim (decLt 3 (x .kind)) [ yes l ↦ array-fits (omega arith) k .0 | no l ↦ cells-fit h (omega arith) .0 .0 ]
-
--- what a walk knows of record r, whose fields x it has read
-pub record Here (f : List ℕ) (r end : ℕ) (x : Fields) : Type 0 where
-  pub low : 1 ≤ x .kind
-  pub high : x .kind ≤ 7
-  pub side : x .kind ≤ 5 → x .side ≤ 1
-  pub steps : Steps f r end x
-  pub few : end ≤ 1024
-
-pub here : (f : List ℕ) (bodies r end : ℕ) → Plain f bodies → r < end → end ≤ record-count f → Walkable f r end → (x : Fields) → x ≡ fields-at f r → Here f r end x
-here f bodies r end w h l g x e =
-    let k : (1 ≤ x .kind) × (x .kind ≤ 7) = rw e (plain-kind f bodies w r end h g) in
-    let s = steps f r end h g x e in
-    record { low = k .0; high = k .1; side = side-fits f x (s .fits) (k .0); steps = s; few = omega (arith, opened-facts f (w .opens) .bounds .records) }
-
--- its arms of i and j records, and what comes after them
-pub record Arms (f : List ℕ) (r end i j : ℕ) : Type 0 where
-  pub inside : r + 1 + i + j ≤ end
-  pub one : Walkable f (r + 1) (r + 1 + i)
-  pub two : Walkable f (r + 1 + i) (r + 1 + i + j)
-  pub rest : Walkable f (r + 1 + i + j) end
-
-pub arms : {f : List ℕ} {r end : ℕ} {x : Fields} → Steps f r end x → (i j : ℕ) → i ≡ first-arm x → j ≡ second-arm x → Arms f r end i j
-arms s i j e g = rw (e, g) (record { inside = s .inside; one = s .one; two = s .two; rest = s .rest })
-
--- a record of kind 1 to 5 has none
-pub after-act : {f : List ℕ} {r end : ℕ} {x : Fields} → Steps f r end x → x .kind ≤ 5 → Walkable f (r + 1) end
-after-act {r = r} {x = x} s k =
-    let a = no-arms x (λ z. omega arith) (λ z. omega arith) in
-    let n : r + 1 + first-arm x + second-arm x ≡ r + 1 = omega (arith, a) in
-    rw n at (s .rest)
-
--- the action of a record of kind 1 to 5, kind by kind
 module _ (x : Fields) (h : (1 ≤ x .kind) × (x .kind ≤ 5)) where
-  pub by-kind : (P : Action → Type 0) →
-      (x .kind ≡ 1 → P (read (side-of (x .side)) (record { array = x .array; p = x .p; q = x .q }))) →
-      (x .kind ≡ 2 → P (write (side-of (x .side)) (record { array = x .array; p = x .p; q = x .q }))) →
-      (x .kind ≡ 3 → P (copy (side-of (x .side)) (record { array = x .array; p = x .p; q = x .q }))) →
-      (x .kind ≡ 4 → P (need (side-of (x .side)) (x .array))) →
-      (x .kind ≡ 5 → P (mark (side-of (x .side)) (x .array))) →
-      P (action-of x)
-  unfolding action-of
-  by-kind P a b d e g = elim (ℕᴺ-discrete (x .kind) 1) [
-    | yes z ↦ rw (eq-eqb (x .kind) 1 z) (a z)
-    | no i ↦ elim (ℕᴺ-discrete (x .kind) 2) [
-      | yes z ↦ rw (ne-eqb (x .kind) 1 i, eq-eqb (x .kind) 2 z) (b z)
-      | no j ↦ elim (ℕᴺ-discrete (x .kind) 3) [
-        | yes z ↦ rw (ne-eqb (x .kind) 1 i, ne-eqb (x .kind) 2 j, eq-eqb (x .kind) 3 z) (d z)
-        | no k ↦ elim (ℕᴺ-discrete (x .kind) 4) [
-          | yes z ↦ rw (ne-eqb (x .kind) 1 i, ne-eqb (x .kind) 2 j, ne-eqb (x .kind) 3 k, eq-eqb (x .kind) 4 z) (e z)
-          | no l ↦ rw (ne-eqb (x .kind) 1 i, ne-eqb (x .kind) 2 j, ne-eqb (x .kind) 3 k, ne-eqb (x .kind) 4 l) (g (omega arith))
-        ]
-      ]
-    ]
-  ]
-
   pub act-kind : touched.kind-of (action-of x) ≡ x .kind
-  act-kind = by-kind (λ y. touched.kind-of y ≡ x .kind) sym sym sym sym sym
+  act-kind = by-kind x h (λ y. touched.kind-of y ≡ x .kind) sym sym sym sym sym
 
   pub act-side : touched.on (action-of x) ≡ side-of (x .side)
-  act-side = by-kind (λ y. touched.on y ≡ side-of (x .side)) (λ z. refl) (λ z. refl) (λ z. refl) (λ z. refl) (λ z. refl)
+  act-side = by-kind x h (λ y. touched.on y ≡ side-of (x .side)) (λ z. refl) (λ z. refl) (λ z. refl) (λ z. refl) (λ z. refl)
 
   pub act-touches : (arrays : Arrays) (c array offset : ℕ) → array-of arrays c ≡ array → c ≡ first-of arrays array + offset →
       touched.touches arrays c (action-of x) ≡ (eqb array (x .array) && (leb 4 (x .kind) || (leb (x .p) offset && ltb offset (x .q))))
-  act-touches arrays c array offset e g = by-kind (λ y. touched.touches arrays c y ≡ (eqb array (x .array) && (leb 4 (x .kind) || (leb (x .p) offset && ltb offset (x .q)))))
+  act-touches arrays c array offset e g = by-kind x h (λ y. touched.touches arrays c y ≡ (eqb array (x .array) && (leb 4 (x .kind) || (leb (x .p) offset && ltb offset (x .q)))))
       (λ z. touched.within-here arrays c array offset e g _ ∙ rw z)
       (λ z. touched.within-here arrays c array offset e g _ ∙ rw z)
       (λ z. touched.within-here arrays c array offset e g _ ∙ rw z)

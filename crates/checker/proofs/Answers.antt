@@ -21,12 +21,12 @@ use Rattle.model.proofs.Numbering.{array-from}
 use Rattle.model.proofs.Check.{with-cell, over-cells, cell-stop}
 use Rattle.format.specs.Bytes.{array-count, arrays-of, record-count, fields-at}
 use Rattle.format.specs.Plans.{plan-of}
-use Rattle.format.specs.Inner.Walks.{block-between}
+use Rattle.format.specs.Inner.Walks.{Plain, Starts, block-between}
 use Rattle.format.proofs.Laws.Tables.{first-more, first-rises, all-cells}
 use Rattle.format.proofs.Walking.{opened-facts}
 use Rattle.checker.specs.declared.summary.Summary.{Summary as Stored}
 use Rattle.checker.specs.Inner.Summaries.{record-of, reading, at-start}
-use Rattle.checker.specs.Inner.Walks.{Plain, Starts, Span, Clear, Marked}
+use Rattle.checker.specs.Inner.Walks.{Span, Clear, Marked}
 use Rattle.checker.proofs.Classes.{stop-alike}
 
 -- with cell c, which can stop at record k

@@ -18,14 +18,14 @@ use Rattle.format.specs.declared.Fields.{Fields}
 use Rattle.format.specs.Opening.{first-arm, second-arm}
 use Rattle.format.specs.Bytes.{array-count, arrays-of, record-count, fields-at}
 use Rattle.format.specs.Plans.{action-of, plan-of}
-use Rattle.format.specs.Inner.Walks.{Walkable, block-between}
+use Rattle.format.specs.Inner.Walks.{Plain, Walkable, block-between}
 use Rattle.format.proofs.Laws.Tables.{first-rises, next-cell, all-cells}
 use Rattle.format.proofs.Walking.{opened-facts, steps}
 use Rattle.format.proofs.Trees.{block-none, block-branch, block-loop, block-act, plain-walk, plain-body}
-use Rattle.checker.specs.Inner.Walks.{Plain, Clear, Marked}
+use Rattle.checker.specs.Inner.Walks.{Clear, Marked}
 use Rattle.checker.proofs.Tests.{leb-before, ltb-before}
 use Rattle.checker.proofs.Touched.{touches, touched-act, untouched-act}
-use Rattle.checker.proofs.Acts.{here, cells-fit, by-kind}
+use Rattle.format.proofs.Acts.{here, cells-fit, by-kind}
 use Rattle.checker.proofs.Blocks.{followed-then}
 
 -- every record of a walkable range begins one

@@ -2,6 +2,7 @@
 pub mod Laws
 pub mod Walking
 pub mod Trees
+pub mod Acts
 -- the file of a plan opens as that plan
 pub mod Files
 pub mod RoundTrip

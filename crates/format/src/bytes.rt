@@ -1,7 +1,8 @@
 // Reading a plan file: its bytes, its numbers of two bytes, the fields of a record.
 ghost use mathlib.Core.Path.{_≡_};
-ghost use Prim.Native.Nat.{_<_};
-ghost use Rattle.format.specs.Bytes.{byte-at, u16-at, entry-at, fields-at};
+ghost use Prim.Native.Nat.{_+_, _*_, _≤_, _<_};
+ghost use lib.ListN.{length};
+ghost use Rattle.format.specs.Bytes.{byte-at, u16-at, entry-at, bodies-at, fields-at};
 ghost use Rattle.format.specs.Opening.{first-arm, second-arm};
 use crate::Fields;
 
@@ -43,6 +44,37 @@ pub fn fields_at(plan: &[u8], r: usize) -> Fields
         zero: byte(plan, at + 3),
         p: u16_at(plan, at + 4),
         q: u16_at(plan, at + 6),
+    }
+}
+
+// A byte as a number of two bytes.
+fn wide(b: u8) -> u16
+    ensures { λ r. ⌜ (r ≡ b) × (r < 256) ⌝ }
+{
+    b as u16
+}
+
+// The number of two bytes at a place inside the plan, the low byte first.
+fn number_at(plan: &[u8], at: usize) -> u16
+    requires { ⌜ at + 2 ≤ length (now plan) ⌝ }
+    ensures { λ r. ⌜ r ≡ u16-at (now (plan .entry)) at ⌝ }
+{
+    wide(plan[at]) + wide(plan[at + 1]) * 256
+}
+
+// The fields of record r, which stands inside a plan whose bodies begin at `bodies`.
+pub fn record_at(plan: &[u8], bodies: usize, r: usize) -> Fields
+    requires { ⌜ (bodies ≡ bodies-at (now plan)) × (bodies + 8 * r + 8 ≤ length (now plan)) ⌝ }
+    ensures { λ x. ⌜ x ≡ fields-at (now (plan .entry)) r ⌝ }
+{
+    let at = bodies + 8 * r;
+    Fields {
+        kind: plan[at],
+        side: plan[at + 1],
+        array: plan[at + 2],
+        zero: plan[at + 3],
+        p: number_at(plan, at + 4),
+        q: number_at(plan, at + 6),
     }
 }
 

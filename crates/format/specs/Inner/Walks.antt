@@ -2,13 +2,25 @@
 use mathlib.Core.Path.{_≡_}
 use mathlib.Core.List.{List}
 use Prim.Native.Nat.{ℕ, _+_, _≤_}
+use lib.ListN.{getD}
 use Rattle.model.specs.declared.Verdict.the-variants.{Accepted}
+use Rattle.model.specs.Sides.{first-of}
 use Rattle.model.specs.Blocks.{Block}
 use Rattle.model.specs.Judging.{Body0}
 use Rattle.format.specs.Rows.{first}
-use Rattle.format.specs.Bytes.{fields-at}
-use Rattle.format.specs.Opening.{block-rows}
+use Rattle.format.specs.Bytes.{kind-of, array-count, arrays-of, bodies-at, fields-at}
+use Rattle.format.specs.Opening.{block-rows, opening}
 use Rattle.format.specs.Plans.{block-of, body0-of}
+
+-- the file opens and its plan is plain; `bodies` is where its bodies begin
+pub record Plain (f : List ℕ) (bodies : ℕ) : Type 0 where
+  pub opens : Accepted ≡ opening f
+  pub kind : kind-of f ≡ 2
+  pub place : bodies ≡ bodies-at f
+
+-- the first cell of each array, and after the last array the number of cells
+pub record Starts (f : List ℕ) (starts : List ℕ) : Type 0 where
+  pub first : (a : ℕ) → a ≤ array-count f → getD starts a 0 ≡ first-of (arrays-of f) a
 
 -- the records r up to `end` of body b, inside `depth` branches and loops, all pass their tests
 pub record Good (f : List ℕ) (b depth r end : ℕ) : Type 0 where

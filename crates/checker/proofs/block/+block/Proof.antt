@@ -9,7 +9,7 @@ use Rattle.model.specs.Sides.{first-of}
 use Rattle.format.specs.Bytes.{arrays-of}
 use Rattle.format.specs.Inner.Walks.{Walkable}
 use Rattle.checker.specs.Inner.Summaries.{reading}
-use Rattle.checker.proofs.Acts.{record-inside, Here, here, Arms, arms, after-act}
+use Rattle.format.proofs.Acts.{record-inside, Here, here, Arms, arms, after-act}
 use Rattle.checker.proofs.Prefixes.{Prefix, prefix-none, prefix-all, step-touched, step-untouched, step-arms}
 use borrow.Fn.Kinds.{In}
 use borrow.Fn.PlainCycle.{Measures, is, falls, and}
@@ -17,7 +17,7 @@ use Rattle.checker.proofs.block.block.Reads as block
 use Rattle.checker.proofs.block.block.Kinds as block-kinds
 use Rattle.checker.proofs.block.+block.Lts-block as block-lts
 use Rattle.checker.proofs.block.with_arms.Reads as with-arms-reads
-use Rattle.checker.proofs.fields.record_at.Reads as record-at-reads
+use Rattle.format.proofs.bytes.record_at.Reads as record-at-reads
 use Rattle.checker.proofs.fields.touches.Reads as touches-reads
 use Rattle.checker.proofs.summary.acted.Reads as acted-reads
 use Rattle.checker.proofs.summary.nothing.Reads as nothing-reads

@@ -1,8 +1,8 @@
 -- `number_at` reads a number of two bytes.
 use borrow.Author.Needs.{needs}
 use Rattle.format.specs.Bytes.{u16-at}
-use Rattle.checker.proofs.fields.number_at.Statement.{statement}
-use Rattle.checker.proofs.fields.number_at.Tie as tie
+use Rattle.format.proofs.bytes.number_at.Statement.{statement}
+use Rattle.format.proofs.bytes.number_at.Tie as tie
 
 shared-slice-read-wide : tie.Need-shared-slice-read-wide
 shared-slice-read-wide c = search needs

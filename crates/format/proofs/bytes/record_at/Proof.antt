@@ -1,8 +1,8 @@
 -- `record_at` reads the fields of a record.
 use borrow.Author.Needs.{needs}
 use Rattle.format.specs.Bytes.{fields-at}
-use Rattle.checker.proofs.fields.record_at.Statement.{statement}
-use Rattle.checker.proofs.fields.record_at.Tie as tie
+use Rattle.format.proofs.bytes.record_at.Statement.{statement}
+use Rattle.format.proofs.bytes.record_at.Tie as tie
 
 mul-at : tie.Need-mul-at
 mul-at c = search needs
