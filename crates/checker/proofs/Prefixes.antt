@@ -9,6 +9,8 @@ use lib.Dec.{eqb, leb, ltb}
 use borrow.Author.Tests.{eq-eqb, ne-eqb}
 use Rattle.model.specs.Sides.{length-of, first-of}
 use Rattle.model.specs.Blocks.{Block, done, act, branch, loop, _then_}
+use Rattle.model.proofs.Through.{then-done}
+use Rattle.model.proofs.Demand.Blocks.{then-assoc}
 use Rattle.model.proofs.Summary.{nothing, either, followed, repeated, summary}
 use Rattle.model.proofs.Numbering.{array-from}
 use Rattle.format.specs.declared.Fields.{Fields}
@@ -22,18 +24,6 @@ use Rattle.checker.specs.Inner.Summaries.{reading, touched}
 use Rattle.checker.proofs.Touched.{touches, touched-act, untouched-act}
 use Rattle.checker.proofs.Acts.{act-kind, act-side, act-touches}
 use Rattle.checker.proofs.Blocks.{followed-nothing, followed-then, either-branch, repeated-loop}
-
-then-done : (x : Block) → x then done ≡ x
-then-done done = refl
-then-done (act k y x) = ap (act k y) (then-done x)
-then-done (branch k y z x) = ap (branch k y z) (then-done x)
-then-done (loop k y x) = ap (loop k y) (then-done x)
-
-then-assoc : (x y z : Block) → (x then y) then z ≡ x then (y then z)
-then-assoc done y z = refl
-then-assoc (act k u x) y z = ap (act k u) (then-assoc x y z)
-then-assoc (branch k u v x) y z = ap (branch k u v) (then-assoc x y z)
-then-assoc (loop k u x) y z = ap (loop k u) (then-assoc x y z)
 
 -- s is the summary of the records from `from` up to r, of those up to `end`, for cell c
 pub record Prefix (f : List ℕ) (c from r end : ℕ) (s : Stored) : Type 0 where

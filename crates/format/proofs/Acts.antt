@@ -6,7 +6,7 @@ use mathlib.Core.List.{List}
 use native.Nat.{ℕᴺ-discrete}
 use native.Mathlib.Decide.{decLt}
 use native.Mathlib.Omega.{arith}
-use lib.Dec.{eqb, leb, ltb}
+use lib.Dec.{eqb, ltb}
 use lib.ListN.{length}
 use borrow.Author.Tests.{eq-eqb, ne-eqb, ltb-true, leb-true}
 use Rattle.model.specs.Effects.{Action, read, write, copy, need, mark}
@@ -50,7 +50,7 @@ module _ (f : List ℕ) (x : Fields) (e : fields-fit f x ≡ true) where
       let w₃ = and-out side array (and-out (side && array) (eqb (x .zero) 0) (w₂ .0) .0) in
       ((omega (arith, ltb-true (x .side) 2 (w₃ .0)), ltb-true _ _ (w₃ .1)), ltb-true _ _ (w₂ .1), leb-true _ _ (w₁ .1))
 
-  array-fits : 4 ≤ x .kind → x .kind ≤ 5 → on-array
+  pub array-fits : 4 ≤ x .kind → x .kind ≤ 5 → on-array
   array-fits h k =
       let side = ltb (x .side) 2 in
       let array = ltb (x .array) (array-count f) in

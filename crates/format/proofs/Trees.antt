@@ -145,21 +145,27 @@ no-arms x j k = (rw (out-of-range 6 7 (x .kind) (λ u v. omega arith)), rw (ne-e
 -- the bodies of a file that opens, as walks
 module _ (f : List ℕ) (w : Facts f) where
   -- the body of a plain plan
-  pub plain-walk : kind-of f ≡ 2 → Walkable f 0 (record-count f)
-  plain-walk k =
+  pub plain-good : kind-of f ≡ 2 → Good f 0 0 0 (record-count f)
+  plain-good k =
       let one : body-count f ≡ 1 = w .bounds .header .plain k in
-      record { body = 0; depth = 0; good = rw one (rw (first-zero (sizes-of f)) at (w .good 0 (omega arith))) }
+      rw one (rw (first-zero (sizes-of f)) at (w .good 0 (omega arith)))
+
+  pub plain-walk : kind-of f ≡ 2 → Walkable f 0 (record-count f)
+  plain-walk k = record { body = 0; depth = 0; good = plain-good k }
 
   pub plain-body : plan-of f .body ≡ block-between f 0 (record-count f)
   unfolding plan-of block-between
   plain-body = refl
 
   -- body 0 of a declared plan
-  pub body0-walk : Walkable f 0 (records-in f 0)
-  body0-walk =
+  pub body0-good : Good f 0 0 0 (records-in f 0)
+  body0-good =
       let z = first-zero (sizes-of f) in
       let n : first-record f 1 ≡ records-in f 0 = next-record f 0 (omega (arith, w .bounds .header .bodies)) ∙ rw z (zero-add (records-in f 0)) in
-      record { body = 0; depth = 0; good = rw (z, n) at (w .good 0 (omega (arith, w .bounds .header .bodies))) }
+      rw (z, n) at (w .good 0 (omega (arith, w .bounds .header .bodies)))
+
+  pub body0-walk : Walkable f 0 (records-in f 0)
+  body0-walk = record { body = 0; depth = 0; good = body0-good }
 
   pub body0-body : declared-plan-of f .body0 ≡ body0-between f 0 (records-in f 0)
   unfolding declared-plan-of body0-between

@@ -7,3 +7,4 @@ pub mod Stages
 pub mod Coherence
 pub mod Moves
 pub mod Following
+pub mod Adding

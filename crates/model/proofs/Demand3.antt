@@ -8,7 +8,7 @@ use borrow.Author.Tests.{eqb-true}
 use Rattle.model.specs.Sides.{Side, Stamp, never, at, equals, cells, Cells, within}
 use Rattle.model.specs.Effects.{Action, read}
 use Rattle.model.specs.Blocks.{Block, act}
-use Rattle.model.specs.Runs.{Config, stopped, carry, lowest-unmet, stop-or, step, Run, Ends}
+use Rattle.model.specs.Runs.{Config, finished, stopped, carry, lowest-unmet, stop-or, step, Run, Ends, tally}
 use Rattle.model.specs.Judging.{DeclaredPlan, Accepts}
 use Rattle.model.specs.Expanding.{expansion}
 use Rattle.model.specs.Demand.{latest-write, Moves, Demand3}
@@ -20,6 +20,7 @@ use Rattle.model.proofs.Demand.Stages.{walked, declares-all, asks-all}
 use Rattle.model.proofs.Demand.Coherence.{coherent}
 use Rattle.model.proofs.Demand.Moves.{moves-once}
 use Rattle.model.proofs.Demand.Following.{Finished, follows, at-end}
+use Rattle.model.proofs.Demand.Adding.{copied-cells, adds-all}
 
 equal-stamp : (x : Stamp) (k : ℕ) → equals x k ≡ true → x ≡ at k
 equal-stamp never k e = absurd (false≢true e)
@@ -72,3 +73,9 @@ demand3 plan ok cs = record {
   current = current plan cs ok;
   moved = λ k e. moved plan cs ok (at-end plan cs ok e);
 }
+
+-- the moves of a finished run, and that the cells moved are theirs
+pub moves-add : (plan : DeclaredPlan) → Accepts plan → (cs : List Bool) (k : Config) → Ends (expansion plan) cs k finished →
+    (m : Moves plan cs k) × (tally (plan .arrays) (k .history) .moved ≡ copied-cells (plan .arrays) (m .made))
+unfolding moved
+moves-add plan ok cs k e = let f = at-end plan cs ok e in (moved plan cs ok f, adds-all plan cs ok (f .stages))

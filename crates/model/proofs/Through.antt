@@ -152,7 +152,7 @@ module _ (arrays : Arrays) (c : ℕ) where
       | inr t ↦ from-loop k y (x then b) false (s .0) (from-stops x b (s .0) t)
     ])
 
-then-done : (x : Block) → x then done ≡ x
+pub then-done : (x : Block) → x then done ≡ x
 then-done done = refl
 then-done (act k y x) = ap (act k y) (then-done x)
 then-done (branch k y z x) = ap (branch k y z) (then-done x)

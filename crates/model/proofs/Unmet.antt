@@ -1,4 +1,4 @@
--- The lowest unmet cell of a record is unmet; there is one if some cell is unmet, and none exactly if every cell is met.
+-- The lowest unmet cell of a record is unmet, and a cell that is unmet with all below it met is the lowest; there is one if some cell is unmet, and none exactly if every cell is met.
 use Prim.Native.Nat.{ℕ, zero, suc, _+_, _≤_, _<_}
 use mathlib.Core.Path.{_≡_, refl, sym, _∙_}
 use mathlib.Core.Bool.{Bool, true, false, cond, true≢false}
@@ -27,6 +27,15 @@ module _ (arrays : Arrays) (x : Action) (σ : State) where
           (d : ℕ) × (cond b (unmet-from arrays x σ (suc m) n) (some m) ≡ some d)
       go true q above = elim (decLt m c) [ yes k ↦ above k | no k ↦ let p : m ≡ c = omega arith in absurd (true≢false (cc)) ]
       go false q above = (m, refl)
+
+  -- an unmet cell with all below it met is the one found
+  pub unmet-first : (m n d : ℕ) → m ≤ d → d < m + n → met arrays x σ d ≡ false → ((c : ℕ) → c < d → met arrays x σ c ≡ true) → unmet-from arrays x σ m n ≡ some d
+  unmet-first m zero d h l e f = absurd (omega arith)
+  unmet-first m (suc n) d h l e f = go (met arrays x σ m) refl (λ k. unmet-first (suc m) n d k (omega arith) e f)
+    where
+      go : (b : Bool) → met arrays x σ m ≡ b → (m < d → unmet-from arrays x σ (suc m) n ≡ some d) → cond b (unmet-from arrays x σ (suc m) n) (some m) ≡ some d
+      go true q above = elim (decLt m d) [ yes k ↦ above k | no k ↦ let p : m ≡ d = omega arith in absurd (true≢false (cc)) ]
+      go false q above = elim (decLt m d) [ yes k ↦ absurd (true≢false (sym (f m k) ∙ q)) | no k ↦ let p : m ≡ d = omega arith in cc ]
 
   pub none-unmet : ((c : ℕ) → c < cells arrays → met arrays x σ c ≡ true) → lowest-unmet arrays x σ ≡ none
   none-unmet f = go (lowest-unmet arrays x σ) refl

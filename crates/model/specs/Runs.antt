@@ -4,6 +4,7 @@ use mathlib.Core.Path.{_≡_}
 use mathlib.Core.List.{List, [], _∷_}
 use mathlib.Core.Bool.{Bool, false, cond, not}
 use mathlib.Core.Option.{Option, none, some}
+use Rattle.model.specs.declared.Tally.{Tally}
 use Rattle.model.specs.Sides.{Arrays, cells, length-of}
 use Rattle.model.specs.Effects.{Action, read, write, copy, need, mark, State, start, met, effect}
 use Rattle.model.specs.Blocks.{Block, done, act, branch, loop, _then_, Plan}
@@ -104,12 +105,6 @@ pub record Ends (plan : Plan) (cs : List Bool) (k : Config) (e : Ending) : Type 
   pub run : Run plan cs k
   pub last : step (plan .arrays) k ≡ ends e
 
--- "read records, write records, cells moved, from zero"
-pub record Tally : Type 0 where
-  pub reads : ℕ
-  pub writes : ℕ
-  pub moved : ℕ
-
 -- one executed record more: "A copy moves all its cells, a need that copies the whole array."
 abbrev pub counted : Arrays → Action → Bool → Tally → Tally
 counted arrays (read s x) m t = record { reads = suc (t .reads); writes = t .writes; moved = t .moved }
@@ -118,7 +113,7 @@ counted arrays (copy s x) m t = record { reads = t .reads; writes = t .writes; m
 counted arrays (need s a) m t = record { reads = t .reads; writes = t .writes; moved = t .moved + cond m (length-of arrays a) 0 }
 counted arrays (mark s a) m t = t
 
--- the tally of a history
+-- the tally of a history: "read records, write records, cells moved, from zero"
 abbrev pub tally : Arrays → List Event → Tally
 tally arrays [] = record { reads = 0; writes = 0; moved = 0 }
 tally arrays (e ∷ l) = counted arrays (e .action) (e .copied) (tally arrays l)

@@ -25,6 +25,13 @@ pub struct Values {
     pub cell: u16,
 }
 
+// The tally of a run: read records, write records, cells moved.
+pub struct Tally {
+    pub reads: u64,
+    pub writes: u64,
+    pub moved: u64,
+}
+
 // The values of an answer, where a stop has the number `stop`: 18 of the check, 21 of the run.
 pub fn values_of(v: Verdict, stop: u8) -> Values
     ensures { λ r. ⌜ r ≡ values-of stop v ⌝ }

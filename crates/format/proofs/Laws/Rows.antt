@@ -11,11 +11,20 @@ use denote.Enum.Declared.{tagOf}
 use types.Run.{OneOf}
 use Rattle.model.proofs.Verdict.{the-type}
 use Rattle.model.specs.declared.Verdict.{Verdict}
-use Rattle.model.specs.declared.Verdict.the-variants.{Accepted, Refused}
+use Rattle.model.specs.declared.Verdict.the-variants.{Accepted, Stopped, Refused}
+use Rattle.model.specs.declared.Record.{Record}
+use Rattle.model.specs.declared.Cell.{Cell}
 use Rattle.format.specs.Rows.{Row, row, first, each}
 
 pub refused : {n p : ℕ} {v : Verdict} → v ≡ Refused n p → v ≡ Accepted → ⊥
 refused e h = let z : _≡_ {A = ℕ} 0 1 = cc in omega arith
+
+-- no row stops
+pub never-stops : (rows : List Row) (r : Record) (c : Cell) → Stopped r c ≡ first rows → ⊥
+unfolding first
+never-stops [] r c e = let z : _≡_ {A = ℕ} 0 1 = cc in omega arith
+never-stops (row true n p ∷ rows) r c e = let z : _≡_ {A = ℕ} 0 1 = cc in omega arith
+never-stops (row false n p ∷ rows) r c e = never-stops rows r c e
 
 -- an answer that a `let .. else` for Accepted turns away
 pub turned : (v : Verdict) → OneOf (1 ∷ 2 ∷ []) (tagOf the-type v) → v ≡ Accepted → ⊥

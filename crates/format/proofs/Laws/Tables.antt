@@ -10,7 +10,7 @@ use lib.Dec.{ltb, leb}
 use lib.ListN.{length, getD, set, length-append, length-set, List·getD-append}
 use lib.Seq.{getD-at, getD-set-same, getD-set-other, ext-getD}
 use borrow.Author.Tests.{lt-ltb, le-ltb, le-leb, lt-leb}
-use Rattle.model.specs.Sides.{Arrays, cells, first-of}
+use Rattle.model.specs.Sides.{Arrays, cells, length-of, first-of}
 use Rattle.format.specs.Bytes.{array-count, body-count, table, length-at, arrays-of, records-in, sizes-of, first-record}
 
 module _ {A : Type 0} (g : ℕ → A) where
@@ -87,15 +87,22 @@ first-rises l a (suc b) h = elim (decLt a (suc b)) [
   | no m ↦ let z : a ≡ suc b = omega arith in rw z (omega arith)
 ]
 
--- the same of a file's arrays and bodies
-pub next-cell : (f : List ℕ) (a : ℕ) → a < array-count f → first-of (arrays-of f) (suc a) ≡ first-of (arrays-of f) a + length-at f a
+-- a file's arrays: how many they are, and how long each is
+pub arrays-counted : (f : List ℕ) → length (arrays-of f) ≡ array-count f
 unfolding arrays-of
-next-cell f a h = first-more (table (length-at f) (array-count f)) a ∙ rw (getD-table (length-at f) (array-count f) a 0 h)
+arrays-counted f = length-table (length-at f) (array-count f)
+
+pub array-length : (f : List ℕ) (a : ℕ) → a < array-count f → length-of (arrays-of f) a ≡ length-at f a
+unfolding arrays-of
+array-length f a h = getD-table (length-at f) (array-count f) a 0 h
+
+-- the first cell of an array and the first record of a body of a file
+pub next-cell : (f : List ℕ) (a : ℕ) → a < array-count f → first-of (arrays-of f) (suc a) ≡ first-of (arrays-of f) a + length-at f a
+next-cell f a h = first-more (arrays-of f) a ∙ rw (array-length f a h)
 
 pub next-record : (f : List ℕ) (b : ℕ) → b < body-count f → first-record f (suc b) ≡ first-record f b + records-in f b
 unfolding sizes-of
 next-record f b h = first-more (table (records-in f) (body-count f)) b ∙ rw (getD-table (records-in f) (body-count f) b 0 h)
 
 pub all-cells : (f : List ℕ) → cells (arrays-of f) ≡ first-of (arrays-of f) (array-count f)
-unfolding arrays-of
-all-cells f = cells-first (table (length-at f) (array-count f)) ∙ rw (length-table (length-at f) (array-count f))
+all-cells f = cells-first (arrays-of f) ∙ rw (arrays-counted f)
