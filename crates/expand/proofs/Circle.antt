@@ -3,3 +3,4 @@ pub mod Levels
 pub mod Fits
 pub mod Opens
 pub mod Runs
+pub mod Writes

@@ -1,0 +1,149 @@
+-- Before the run: the first row that holds, and where the machine stands at the start.
+use mathlib.Core.Path.{_≡_, refl, sym, ap, _∙_}
+use mathlib.Core.Bool.{true, false, not, _||_}
+use mathlib.Core.List.{List}
+use Prim.Native.Nat.{ℕ, _≤_, _<_}
+use native.Mathlib.Omega.{arith}
+use lib.Dec.{ltb, eqb}
+use lib.ListN.{length, getD}
+use borrow.Author.Tests.{eq-eqb, ne-eqb, eqb-true, lt-ltb, le-leb, ltb-false, not-false}
+use Rattle.model.specs.declared.Verdict.{Verdict}
+use Rattle.model.specs.declared.Verdict.the-variants.{Accepted, Refused}
+use Rattle.model.specs.Sides.{host, card, cells}
+use Rattle.model.specs.Blocks.{_then_}
+use Rattle.model.specs.Runs.{begin, here}
+use Rattle.model.proofs.Booleans.{or-none}
+use Rattle.model.proofs.Stamps.{past}
+use Rattle.model.proofs.Through.{then-done}
+use Rattle.format.specs.Rows.{first}
+use Rattle.format.specs.Bytes.{kind-of, arrays-of, array-count, record-count}
+use Rattle.format.specs.Opening.{open-rows, opening}
+use Rattle.format.specs.declared.Opened.{Opened}
+use Rattle.format.specs.Opened.{found}
+use Rattle.format.specs.Plans.{plan-of}
+use Rattle.format.specs.Inner.Walks.{Plain, Starts, block-between}
+use Rattle.format.proofs.Laws.Rows.{holds, skips, skipped, empty, stop, pass, passed}
+use Rattle.format.proofs.Laws.Tables.{arrays-counted, length-table}
+use Rattle.format.proofs.Walking.{verdict-is, found-is, array-start, Facts, opened-facts}
+use Rattle.format.proofs.Trees.{plain-good, plain-body}
+use Rattle.run.specs.Running.{Lent, choices-of, run-rows}
+use Rattle.run.specs.Inner.Acting.{Changed}
+use Rattle.run.specs.Inner.Standing.{started, first-machine, rest-of, left-of, weight-of, weight, Parts, Reaches, Ready}
+use Rattle.run.proofs.Masks.{none}
+
+-- the rows, one after the other
+module _ (f choices : List ℕ) (b : Lent) where
+  pub row-unopened : (v : Verdict) → (v ≡ Accepted → ⊥) → v ≡ opening f → v ≡ first (run-rows f choices b)
+  unfolding run-rows opening
+  row-unopened v nay e = stop (open-rows f) _ v nay e
+
+  module _ (e : Accepted ≡ opening f) where
+    pub row-declared : (kind-of f ≡ 2 → ⊥) → Refused 11 0 ≡ first (run-rows f choices b)
+    unfolding run-rows opening
+    row-declared n = pass (open-rows f) _ (Refused 11 0) e (holds _ 11 0 _ (rw (ne-eqb (kind-of f) 2 n)))
+
+    module _ (k : kind-of f ≡ 2) (n : ℕ) (q : n ≡ cells (arrays-of f)) where
+      kind-row : not (eqb (kind-of f) 2) ≡ false
+      kind-row = rw (eq-eqb (kind-of f) 2 k)
+
+      pub row-short : (ltb (length (b .host)) n || ltb (length (b .card)) n || ltb (length (b .latest)) n) ≡ true → Refused 19 0 ≡ first (run-rows f choices b)
+      unfolding run-rows opening
+      row-short t = pass (open-rows f) _ (Refused 19 0) e (skips _ 11 0 _ (Refused 19 0) kind-row (holds _ 19 0 _ (rw q at t)))
+
+      module _ (t : (ltb (length (b .host)) n || ltb (length (b .card)) n || ltb (length (b .latest)) n) ≡ false) where
+        pub row-many : 65536 < length choices → Refused 20 0 ≡ first (run-rows f choices b)
+        unfolding run-rows opening
+        row-many h = pass (open-rows f) _ (Refused 20 0) e (skips _ 11 0 _ (Refused 20 0) kind-row (skips _ 19 0 _ (Refused 20 0) (rw q at t) (holds _ 20 0 _ (lt-ltb 65536 (length choices) h))))
+
+        pub row-none : ltb 65536 (length choices) ≡ false → Accepted ≡ first (run-rows f choices b)
+        unfolding run-rows opening
+        row-none h = pass (open-rows f) _ Accepted e (skips _ 11 0 _ Accepted kind-row (skips _ 19 0 _ Accepted (rw q at t) (skips _ 20 0 _ Accepted h empty)))
+
+  -- what holds where no row does
+  pub record Begins : Type 0 where
+    pub opens : Accepted ≡ opening f
+    pub kind : kind-of f ≡ 2
+    pub host-room : cells (arrays-of f) ≤ length (b .host)
+    pub card-room : cells (arrays-of f) ≤ length (b .card)
+    pub latest-room : cells (arrays-of f) ≤ length (b .latest)
+    pub few : length choices ≤ 65536
+
+  pub begins : Accepted ≡ first (run-rows f choices b) → Begins
+  unfolding run-rows opening
+  begins e =
+      let p = passed (open-rows f) _ e in
+      let k = skipped _ _ _ _ (p .1) in
+      let s = skipped _ _ _ _ (k .1) in
+      let m = skipped _ _ _ _ (s .1) in
+      let n = cells (arrays-of f) in
+      let o = or-none (ltb (length (b .host)) n || ltb (length (b .card)) n) _ (s .0) in
+      let u = or-none (ltb (length (b .host)) n) _ (o .0) in
+      record {
+        opens = p .0;
+        kind = eqb-true _ _ (not-false _ (k .0));
+        host-room = ltb-false _ _ (u .0);
+        card-room = ltb-false _ _ (u .1);
+        latest-room = ltb-false _ _ (o .1);
+        few = ltb-false _ _ (m .0);
+      }
+
+-- the start
+module _ (f choices : List ℕ) (facts : Facts f) (kind : kind-of f ≡ 2) where
+  start-left : plan-of f .body ≡ left-of f (started (record-count f))
+  unfolding left-of rest-of
+  start-left = plain-body f facts ∙ sym (then-done (block-between f 0 (record-count f)))
+
+  module _ (n : ℕ) (q : n ≡ cells (arrays-of f)) (h c l own others latest : List ℕ)
+      (rh : n ≤ length h) (rc : n ≤ length c) (rl : n ≤ length l)
+      (on-host : Changed 0 n (λ i. 0) h own) (on-card : Changed 0 n (λ i. 18446744073709551615) c others) (on-latest : Changed 0 n (λ i. 0) l latest) where
+    filled : (v : ℕ) (a b : List ℕ) → Changed 0 n (λ i. v) a b → (i : ℕ) → i < cells (arrays-of f) → getD b i 0 ≡ v
+    filled v a b w i k = w .cell i ∙ rw (le-leb 0 i (omega arith), lt-ltb i n (omega arith))
+
+    pub reaches-start : Reaches f choices (first-machine (record-count f) (array-count f)) own others latest
+    unfolding weight weight-of Parts plan-of
+    reaches-start = record {
+      config = begin (plan-of f) (choices-of choices);
+      run = here;
+      placed = record {
+        all-ends = length-table (λ i. 0) 16;
+        all-backs = length-table (λ i. 0) 16;
+        here = record { good = plain-good f facts kind; order = omega arith; inside = omega arith };
+        behind = tt;
+        shallow = omega arith;
+      };
+      left = start-left;
+      used = omega arith;
+      choices-left = refl;
+      holds = record {
+        own-room = omega (arith, on-host .size);
+        others-room = omega (arith, on-card .size);
+        latest-room = omega (arith, on-latest .size);
+        own-held = filled 0 h own on-host;
+        others-held = filled 18446744073709551615 c others on-card;
+        latest-held = filled 0 l latest on-latest;
+        own-flags = rw (arrays-counted f) refl;
+        others-flags = sym (none (length (arrays-of f)));
+        reads = refl;
+        writes = refl;
+        moved = refl;
+        counted = refl;
+        past = past {plan = plan-of f} {cs = choices-of choices} here;
+      };
+      few = omega (arith, facts .bounds .records);
+      few-moved = omega arith;
+      ended = refl;
+    }
+
+-- what opening found in a file of which the run may begin
+module _ (f : List ℕ) (o : Opened) (choices own others latest : List ℕ) (r : Ready f o choices own others latest) where
+  pub ready-found : o ≡ found f
+  ready-found = found-is f o (r .found) (verdict-is f o (r .found) ∙ sym (r .opens))
+
+  pub ready-facts : Facts f
+  ready-facts = opened-facts f (r .opens)
+
+  pub ready-plain : (bodies : ℕ) → bodies ≡ o .offset → Plain f bodies
+  ready-plain bodies e = record { opens = r .opens; kind = r .kind; place = e ∙ ap (λ (x : Opened). x .offset) ready-found }
+
+  pub ready-starts : Starts f (o .«array_starts»)
+  ready-starts = record { first = array-start f o ready-found (ready-facts .bounds) }

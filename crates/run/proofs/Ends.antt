@@ -1,0 +1,96 @@
+-- After the run: the memories hold its last configuration, and the answer is that of its ending.
+use mathlib.Core.Path.{_≡_, refl, sym, ap, _∙_}
+use mathlib.Core.Bool.{Bool, false}
+use mathlib.Core.List.{List, _++_}
+use Prim.Native.Nat.{ℕ, _+_, _-_, _≤_, _<_}
+use native.Mathlib.Decide.{decLt}
+use native.Mathlib.Omega.{arith}
+use lib.ListN.{length, getD, drop, length-append, length-drop, length-map, List·getD-append}
+use lib.Seq.{getD-append-add, getD-drop, ext-getD}
+use Rattle.model.specs.declared.Verdict.{Verdict}
+use Rattle.model.specs.declared.Verdict.the-variants.{Accepted, Stopped, Refused}
+use Rattle.model.specs.declared.Tally.{Tally}
+use Rattle.model.specs.Sides.{host, card, Arrays, cells}
+use Rattle.model.specs.Runs.{Config, finished, stopped, out-of-choices, Ending, step, Step}
+use Rattle.format.specs.Rows.{first}
+use Rattle.format.specs.Bytes.{table, arrays-of}
+use Rattle.format.specs.Plans.{plan-of}
+use Rattle.format.proofs.Laws.Rows.{never-stops}
+use Rattle.format.proofs.Laws.Tables.{length-table, getD-table}
+use Rattle.run.specs.declared.End.{End}
+use Rattle.run.specs.declared.machine.Machine.{Machine}
+use Rattle.run.specs.Running.{Lent, lent, choices-of, run-rows, number-of, memory, holding, no-end, end-of, Ran, RunsAs, Runs}
+use Rattle.run.specs.Inner.Acting.{Same}
+use Rattle.run.specs.Inner.Standing.{end-with, tally-with, Ended, Reaches}
+
+-- a memory whose first n cells are as `held` says and whose others are as they were
+module _ (n : ℕ) (held : ℕ → ℕ) (before after : List ℕ) (room : n ≤ length before) (same : Same n before after) (here : (c : ℕ) → c < n → getD after c 0 ≡ held c) where
+  size : length after ≡ length (table held n ++ drop n before)
+  size = same .size ∙ sym (simp (length-append, length-table held n, length-drop) (omega arith))
+
+  entry : (c : ℕ) → getD after c 0 ≡ getD (table held n ++ drop n before) c 0
+  entry c = elim (decLt c n) [
+    | yes h ↦ here c h ∙ sym (List·getD-append (table held n) (drop n before) 0 c (rw (length-table held n) h) ∙ getD-table held n c 0 h)
+    | no h ↦
+        let i : length (table held n) + (c - n) ≡ c = omega (arith, length-table held n) in
+        let j : n + (c - n) ≡ c = omega arith in
+        same .cell c (omega arith) ∙ sym (rw i at (getD-append-add (table held n) (drop n before) (c - n) 0) ∙ rw j at (getD-drop n before (c - n) 0))
+  ]
+
+  memory-is : after ≡ memory n held before
+  unfolding memory
+  memory-is = ext-getD 0 after (table held n ++ drop n before) size (λ c h. entry c)
+
+-- a run that has ended, from memories h, c and l and a tally t
+module _ (f choices : List ℕ) (m : Machine) (own others latest : List ℕ) (w : Reaches f choices m own others latest) (still : m .running ≡ false)
+    (h c l : List ℕ) (t : Tally) (sh : Same (cells (arrays-of f)) h own) (sc : Same (cells (arrays-of f)) c others) (sl : Same (cells (arrays-of f)) l latest)
+    (answer : End) (q : answer ≡ end-with (length (arrays-of f)) (w .config .state .flag host) (w .config .state .flag card) (m .place .used) (m .verdict)) where
+  abbrev k : Config
+  k = w .config
+
+  abbrev arrays : Arrays
+  arrays = arrays-of f
+
+  last-lent : lent own others latest (tally-with (m .stored)) ≡ holding arrays k (lent h c l t)
+  last-lent =
+      let a = memory-is (cells arrays) (λ i. number-of (k .state .held host i)) h own (omega (arith, w .holds .own-room, sh .size)) sh (w .holds .own-held) in
+      let b = memory-is (cells arrays) (λ i. number-of (k .state .held card i)) c others (omega (arith, w .holds .others-room, sc .size)) sc (w .holds .others-held) in
+      let d = memory-is (cells arrays) (k .state .latest) l latest (omega (arith, w .holds .latest-room, sl .size)) sl (w .holds .latest-held) in
+      λ i. record { host = a i; card = b i; latest = d i; tally = record { reads = w .holds .reads i; writes = w .holds .writes i; moved = w .holds .moved i } }
+
+  used-is : m .place .used ≡ length (choices-of choices) - length (k .choices)
+  used-is = rw (w .choices-left, length-map, length-map, length-drop) (omega (arith, w .used))
+
+  ran-as : (e : Ending) → step arrays k ≡ Step.ends e → answer ≡ end-of arrays (choices-of choices) k e → Ran f choices (lent h c l t) (lent own others latest (tally-with (m .stored))) answer
+  unfolding plan-of
+  ran-as e s a = record { config = k; ending = e; ends = record { run = w .run; last = s }; holds = last-lent; answers = a }
+
+  pub ran : Ran f choices (lent h c l t) (lent own others latest (tally-with (m .stored))) answer
+  ran = go (m .verdict) (rw still at (w .ended)) q
+    where
+      go : (v : Verdict) → Ended f k false v → answer ≡ end-with (length arrays) (k .state .flag host) (k .state .flag card) (m .place .used) v →
+          Ran f choices (lent h c l t) (lent own others latest (tally-with (m .stored))) answer
+      go Accepted s a = ran-as finished s (a ∙ ap (λ u. end-with (length arrays) (k .state .flag host) (k .state .flag card) u Accepted) used-is)
+      go (Stopped r d) s a = ran-as (stopped (r .0) (d .0)) s a
+      go (Refused number r) s a = ran-as (out-of-choices r) (s .1) (rw (s .0) at a)
+
+-- a refusal before the run
+module _ (f choices : List ℕ) (b : Lent) where
+  pub runs-refused : (v : Verdict) → (v ≡ Accepted → ⊥) → v ≡ first (run-rows f choices b) → (answer : End) → answer ≡ no-end v → Runs f choices b b answer
+  unfolding Runs
+  runs-refused v nay e answer a = rw (← e) (go v nay e a)
+    where
+      go : (v : Verdict) → (v ≡ Accepted → ⊥) → v ≡ first (run-rows f choices b) → answer ≡ no-end v → RunsAs f choices b b answer v
+      go Accepted nay e a = absurd (nay refl)
+      go (Stopped r c) nay e a = never-stops (run-rows f choices b) r c e
+      go (Refused number place) nay e a = (refl, a)
+
+  pub runs-ran : Accepted ≡ first (run-rows f choices b) → (after : Lent) (answer : End) → Ran f choices b after answer → Runs f choices b after answer
+  unfolding Runs
+  runs-ran e after answer r = rw (← e) r
+
+-- a verdict that is not accepted comes without figures
+pub end-refused : (n : ℕ) (on-host on-card : ℕ → Bool) (used : ℕ) (v : Verdict) → (v ≡ Accepted → ⊥) → no-end v ≡ end-with n on-host on-card used v
+end-refused n on-host on-card used Accepted nay = absurd (nay refl)
+end-refused n on-host on-card used (Stopped r c) nay = refl
+end-refused n on-host on-card used (Refused number place) nay = refl

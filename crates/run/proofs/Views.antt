@@ -1,0 +1,117 @@
+-- The memory view: whether cells are all current, the answer by the rows, the side and the part.
+use mathlib.Core.Path.{_≡_, refl, ap, _∙_}
+use mathlib.Core.Bool.{Bool, true, false, not, cond, _&&_, _||_}
+use mathlib.Core.List.{List, []}
+use Prim.Native.Nat.{ℕ, suc, _+_, _-_, _≤_, _<_, min}
+use native.Mathlib.Numerals.{add-one}
+use native.Mathlib.Omega.{arith}
+use lib.Dec.{ltb, leb, eqb}
+use lib.ListN.{length, getD, take, drop}
+use borrow.Author.Tests.{eq-eqb, ne-eqb, leb-false, ltb-false}
+use Rattle.model.specs.declared.Verdict.{Verdict}
+use Rattle.model.specs.declared.Verdict.the-variants.{Accepted, Stopped, Refused}
+use Rattle.model.proofs.Booleans.{or-none}
+use Rattle.format.proofs.Laws.Rows.{holds, skips, skipped, empty}
+use Rattle.run.specs.declared.view.View.{View}
+use Rattle.run.specs.Viewing.{all-current, memory-view-answer, viewed-side, viewed, memory-view, view-by, memory-side}
+
+-- whether all cells from c up to `end` are current
+module _ (copies latest : List ℕ) (c end : ℕ) where
+  pub current-here : c < end → getD copies c 0 ≡ getD latest c 0 → all-current copies latest c (end - c) ≡ all-current copies latest (c + 1) (end - (c + 1))
+  unfolding all-current
+  current-here h e =
+      let n : end - c ≡ suc (end - (c + 1)) = omega arith in
+      rw (n, eq-eqb (getD copies c 0) (getD latest c 0) e, add-one)
+
+  pub stale-here : c < end → (getD copies c 0 ≡ getD latest c 0 → ⊥) → all-current copies latest c (end - c) ≡ false
+  unfolding all-current
+  stale-here h e =
+      let n : end - c ≡ suc (end - (c + 1)) = omega arith in
+      rw (n, ne-eqb (getD copies c 0) (getD latest c 0) e)
+
+  pub current-end : end ≤ c → all-current copies latest c (end - c) ≡ true
+  unfolding all-current
+  current-end h = let z : end - c ≡ 0 = omega arith in rw z
+
+-- the view of the cells `from` up to `end`
+module _ (host card latest : List ℕ) (from end : ℕ) where
+  -- number 23: the cells are none, or not in every memory
+  abbrev pub outside : Bool
+  outside = leb end from || ltb (min (length host) (min (length card) (length latest))) end
+
+  pub record Inside : Type 0 where
+    pub order : from ≤ end
+    pub host-long : end ≤ length host
+    pub card-long : end ≤ length card
+    pub latest-long : end ≤ length latest
+
+  pub in-each : outside ≡ false → Inside
+  in-each o =
+      let q = or-none (leb end from) (ltb (min (length host) (min (length card) (length latest))) end) o in
+      let l : from < end = leb-false end from (q .0) in
+      let m : end ≤ min (length host) (min (length card) (length latest)) = ltb-false (min (length host) (min (length card) (length latest))) end (q .1) in
+      record { order = omega arith; host-long = omega arith; card-long = omega arith; latest-long = omega arith }
+
+  abbrev on-host : Bool
+  on-host = all-current host latest from (end - from)
+
+  abbrev on-card : Bool
+  on-card = all-current card latest from (end - from)
+
+  by-answer : (v : Verdict) → v ≡ memory-view-answer host card latest from end → view-by (viewed-side host latest from end) v ≡ memory-side host card latest from end
+  unfolding memory-side
+  by-answer v e = rw e
+
+  -- each answer, by the rows
+  pub view-outside : outside ≡ true → record { verdict = Refused 23 0; side = 0 } ≡ memory-side host card latest from end
+  unfolding memory-view-answer
+  view-outside o = by-answer (Refused 23 0) (holds outside 23 0 _ o)
+
+  module _ (o : outside ≡ false) where
+    pub view-host : on-host ≡ true → record { verdict = Accepted; side = 0 } ≡ memory-side host card latest from end
+    unfolding memory-view-answer viewed-side
+    view-host h = rw h at (by-answer Accepted (skips outside 23 0 _ Accepted o (skips (not on-host && not on-card) 24 0 _ Accepted (rw h) empty)))
+
+    pub view-card : on-host ≡ false → on-card ≡ true → record { verdict = Accepted; side = 1 } ≡ memory-side host card latest from end
+    unfolding memory-view-answer viewed-side
+    view-card h k = rw h at (by-answer Accepted (skips outside 23 0 _ Accepted o (skips (not on-host && not on-card) 24 0 _ Accepted (rw (h, k)) empty)))
+
+    pub view-stale : on-host ≡ false → on-card ≡ false → record { verdict = Refused 24 0; side = 0 } ≡ memory-side host card latest from end
+    unfolding memory-view-answer
+    view-stale h k = by-answer (Refused 24 0) (skips outside 23 0 _ (Refused 24 0) o (holds (not on-host && not on-card) 24 0 _ (rw (h, k))))
+
+  -- the answer that comes with the side
+  pub answer-of : (r : View) → r ≡ memory-side host card latest from end → r .verdict ≡ memory-view-answer host card latest from end
+  unfolding memory-side
+  answer-of r e = ap (λ (x : View). x .verdict) e ∙ go (memory-view-answer host card latest from end)
+    where
+      go : (v : Verdict) → view-by (viewed-side host latest from end) v .verdict ≡ v
+      go Accepted = refl
+      go (Stopped n c) = refl
+      go (Refused n p) = refl
+
+  -- the part: none, or of one side's memory, in which it lies
+  pub part-none : (v : Verdict) → (v ≡ Accepted → ⊥) → v ≡ memory-view-answer host card latest from end → [] ≡ memory-view host card latest from end
+  unfolding memory-view
+  part-none v nay e = rw (← e) (go v nay)
+    where
+      go : (v : Verdict) → (v ≡ Accepted → ⊥) → [] ≡ viewed host card (viewed-side host latest from end) from end v
+      go Accepted nay = absurd (nay refl)
+      go (Stopped n c) nay = refl
+      go (Refused n p) nay = refl
+
+  module _ (e : Accepted ≡ memory-view-answer host card latest from end) where
+    pub part-inside : Inside
+    unfolding memory-view-answer
+    part-inside = in-each (skipped outside 23 0 _ e .0)
+
+    module _ (r : View) (q : r ≡ memory-side host card latest from end) where
+      part-of : take (end - from) (drop from (cond (eqb (r .side) 0) host card)) ≡ memory-view host card latest from end
+      unfolding memory-side memory-view
+      part-of = rw (ap (λ (x : View). x .side) q, ← e)
+
+      pub part-host : r .side ≡ 0 → take (end - from) (drop from host) ≡ memory-view host card latest from end
+      part-host s = rw (eq-eqb (r .side) 0 s) at part-of
+
+      pub part-card : (r .side ≡ 0 → ⊥) → take (end - from) (drop from card) ≡ memory-view host card latest from end
+      part-card s = rw (ne-eqb (r .side) 0 s) at part-of

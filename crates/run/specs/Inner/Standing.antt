@@ -1,0 +1,172 @@
+-- No promise of an entry point rests on this text: where the runner stands, and which configuration of the run that is.
+use Prim.Native.Nat.{ℕ, zero, suc, _+_, _-_, _*_, _≤_}
+use mathlib.Core.Path.{_≡_}
+use mathlib.Core.Bool.{Bool, true, false, cond}
+use mathlib.Core.List.{List}
+use lib.Dec.{leb, eqb}
+use lib.ListN.{length, getD, set, drop}
+use Rattle.model.specs.declared.Verdict.{Verdict}
+use Rattle.model.specs.declared.Verdict.the-variants.{Accepted, Stopped, Refused}
+use Rattle.model.specs.declared.Tally.{Tally}
+use Rattle.model.specs.Sides.{host, cells}
+use Rattle.model.specs.Blocks.{Block, _then_}
+use Rattle.model.specs.Runs.{Config, Step, finished, stopped, out-of-choices, step, Run, tally}
+use Rattle.format.specs.declared.Fields.{Fields}
+use Rattle.format.specs.declared.Opened.{Opened}
+use Rattle.format.specs.Bytes.{kind-of, table, arrays-of, record-count}
+use Rattle.format.specs.Opening.{first-arm, second-arm, opening}
+use Rattle.format.specs.Opened.{opened}
+use Rattle.format.specs.Plans.{plan-of}
+use Rattle.format.specs.Inner.Walks.{Good, block-between}
+use Rattle.run.specs.declared.acts.Stored.{Stored}
+use Rattle.run.specs.declared.place.Place.{Place}
+use Rattle.run.specs.declared.machine.Machine.{Machine}
+use Rattle.run.specs.declared.End.{End}
+use Rattle.run.specs.Running.{choices-of, mask, set-flags, no-end}
+use Rattle.run.specs.Inner.Acting.{Holds}
+
+-- the moves of a place
+abbrev pub started : ℕ → Place
+started records = record { at = 0; end = records; depth = 0; used = 0; ends = table (λ i. 0) 16; backs = table (λ i. 0) 16 }
+
+abbrev pub entered : Place → ℕ → ℕ → ℕ → Place
+entered p at end back = record { at = at; end = end; depth = p .depth + 1; used = p .used + 1; ends = set (p .ends) (p .depth) (p .end); backs = set (p .backs) (p .depth) back }
+
+abbrev pub skipped : Place → ℕ → Place
+skipped p at = record { at = at; end = p .end; depth = p .depth; used = p .used + 1; ends = p .ends; backs = p .backs }
+
+abbrev pub left-arm : Place → Place
+left-arm p = record { at = getD (p .backs) (p .depth - 1) 0; end = getD (p .ends) (p .depth - 1) 0; depth = p .depth - 1; used = p .used; ends = p .ends; backs = p .backs }
+
+abbrev pub past-record : Place → Place
+past-record p = record { at = p .at + 1; end = p .end; depth = p .depth; used = p .used; ends = p .ends; backs = p .backs }
+
+unfoldable pub chosen : Place → Fields → ℕ → Place
+chosen p x choice =
+    let second = p .at + 1 + first-arm x in
+    let next = second + second-arm x in
+    cond (eqb (x .kind) 6)
+    (cond (eqb choice 0) (entered p second next next) (entered p (p .at + 1) second next))
+    (cond (eqb choice 0) (skipped p next) (entered p (p .at + 1) second (p .at)))
+
+-- the moves of a machine
+abbrev pub ended-with : Machine → Verdict → Machine
+ended-with m v = record { place = m .place; stored = m .stored; verdict = v; running = false }
+
+abbrev pub moved-to : Machine → Place → Stored → Machine
+moved-to m p s = record { place = p; stored = s; verdict = m .verdict; running = m .running }
+
+abbrev pub first-machine : ℕ → ℕ → Machine
+first-machine records arrays = record {
+  place = started records;
+  stored = record { flags = mask arrays (λ a. true); «other_flags» = 0; reads = 0; writes = 0; moved = 0 };
+  verdict = Accepted;
+  running = true;
+}
+
+unfoldable pub arm-ended : Machine → Machine
+arm-ended m = cond (eqb (m .place .depth) 0) (ended-with m Accepted) (moved-to m (left-arm (m .place)) (m .stored))
+
+unfoldable pub tested : Machine → Fields → List ℕ → Machine
+tested m x choices =
+    cond (eqb (m .place .used) (length choices)) (ended-with m (Refused 22 (m .place .at)))
+    (moved-to m (chosen (m .place) x (getD choices (m .place .used) 0)) (m .stored))
+
+-- the cells of a record with the fields x, whose array has the cells `first` up to `next`
+abbrev pub from-of : Fields → ℕ → ℕ
+from-of x first = cond (leb (x .kind) 3) (first + x .p) first
+
+abbrev pub to-of : Fields → ℕ → ℕ → ℕ
+to-of x first next = cond (leb (x .kind) 3) (first + x .q) next
+
+-- what is left behind the innermost of `depth` arms
+unfoldable pub rest-of : List ℕ → List ℕ → List ℕ → ℕ → Block
+rest-of f ends backs zero = Block.done
+rest-of f ends backs (suc d) = block-between f (getD backs d 0) (getD ends d 0) then rest-of f ends backs d
+
+-- what is left at a place
+unfoldable pub left-of : List ℕ → Place → Block
+left-of f p = block-between f (p .at) (p .end) then rest-of f (p .ends) (p .backs) (p .depth)
+
+-- how many records are left behind the innermost of `depth` arms, and one for the way out of each
+unfoldable pub weight-of : List ℕ → List ℕ → ℕ → ℕ
+weight-of ends backs zero = 0
+weight-of ends backs (suc d) = 1 + (getD ends d 0 - getD backs d 0) + weight-of ends backs d
+
+-- the same at a place: it falls with every step that takes no choice
+unfoldable pub weight : Place → ℕ
+weight p = (p .end - p .at) + weight-of (p .ends) (p .backs) (p .depth)
+
+-- more than the weight of any place
+abbrev pub heavy : ℕ
+heavy = 32768
+
+-- it falls with every step of a machine that runs
+unfoldable pub measure : ℕ → Machine → ℕ
+measure n m = (n - m .place .used) * heavy + weight (m .place) + cond (m .running) 1 0
+
+-- the records r up to `end`, inside d branches and loops, are part of the plan
+pub record Part (f : List ℕ) (d r end : ℕ) : Type 0 where
+  pub good : Good f 0 d r end
+  pub order : r ≤ end
+  pub inside : end ≤ record-count f
+
+-- each of `depth` arms goes on in such a part
+unfoldable pub Parts : List ℕ → List ℕ → List ℕ → ℕ → Type 0
+Parts f ends backs zero = Unit {0}
+Parts f ends backs (suc d) = Part f d (getD backs d 0) (getD ends d 0) × Parts f ends backs d
+
+pub record Placed (f : List ℕ) (p : Place) : Type 0 where
+  pub all-ends : length (p .ends) ≡ 16
+  pub all-backs : length (p .backs) ≡ 16
+  pub here : Part f (p .depth) (p .at) (p .end)
+  pub behind : Parts f (p .ends) (p .backs) (p .depth)
+  pub shallow : p .depth ≤ 16
+
+-- the run goes on, or it ends at configuration k as the verdict says
+abbrev pub Ended : List ℕ → Config → Bool → Verdict → Type 0
+Ended f k true v = v ≡ Accepted
+Ended f k false Accepted = step (arrays-of f) k ≡ Step.ends finished
+Ended f k false (Stopped r c) = step (arrays-of f) k ≡ Step.ends (stopped (r .0) (c .0))
+Ended f k false (Refused number r) = (number ≡ 22) × (step (arrays-of f) k ≡ Step.ends (out-of-choices r))
+
+-- the machine and the memories are at a configuration of the run
+pub record Reaches (f choices : List ℕ) (m : Machine) (own others latest : List ℕ) : Type 0 where
+  pub config : Config
+  pub run : Run (plan-of f) (choices-of choices) config
+  pub placed : Placed f (m .place)
+  pub left : config .left ≡ left-of f (m .place)
+  pub used : m .place .used ≤ length choices
+  pub choices-left : config .choices ≡ choices-of (drop (m .place .used) choices)
+  pub holds : Holds (arrays-of f) host (m .stored) own others latest (config .state) (config .history)
+  -- what bounds the stamps and the tally
+  pub few : length (config .history) + weight (m .place) ≤ (m .place .used + 1) * heavy
+  pub few-moved : tally (arrays-of f) (config .history) .moved ≤ length (config .history) * 4096
+  pub ended : Ended f config (m .running) (m .verdict)
+
+-- the file is a plain plan that opening has found to be o, and the run may begin
+pub record Ready (f : List ℕ) (o : Opened) (choices own others latest : List ℕ) : Type 0 where
+  pub found : o ≡ opened f
+  pub opens : Accepted ≡ opening f
+  pub kind : kind-of f ≡ 2
+  pub own-room : cells (arrays-of f) ≤ length own
+  pub others-room : cells (arrays-of f) ≤ length others
+  pub latest-room : cells (arrays-of f) ≤ length latest
+  pub few : length choices ≤ 65536
+
+-- what a run answers that has ended with a verdict, where the flags of n arrays are those
+abbrev pub end-with : ℕ → (ℕ → Bool) → (ℕ → Bool) → ℕ → Verdict → End
+end-with n on-host on-card used Accepted = record {
+  verdict = Accepted;
+  used = used;
+  «host_flags» = mask n on-host;
+  «card_flags» = mask n on-card;
+  «on_host» = set-flags n on-host;
+  «on_card» = set-flags n on-card;
+}
+end-with n on-host on-card used (Stopped r c) = no-end (Stopped r c)
+end-with n on-host on-card used (Refused number place) = no-end (Refused number place)
+
+-- the tally of a machine
+abbrev pub tally-with : Stored → Tally
+tally-with s = record { reads = s .reads; writes = s .writes; moved = s .moved }

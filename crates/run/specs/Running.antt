@@ -1,0 +1,110 @@
+-- The run of a plan file (document 01, 'Running and viewing' and 'Numbers by the place where each is checked').
+use Prim.Native.Nat.{ℕ, zero, suc, _+_, _-_, _*_, _^_}
+use mathlib.Core.Path.{_≡_}
+use mathlib.Core.Bool.{Bool, cond, not, _||_}
+use mathlib.Core.List.{List, [], _∷_, _++_, map}
+use lib.Dec.{ltb, eqb}
+use lib.ListN.{length, drop}
+use Rattle.model.specs.declared.Verdict.{Verdict}
+use Rattle.model.specs.declared.Verdict.the-variants.{Accepted, Stopped, Refused}
+use Rattle.model.specs.declared.Tally.{Tally}
+use Rattle.model.specs.Sides.{host, card, Stamp, never, at, Arrays, cells}
+use Rattle.model.specs.Runs.{Config, Ending, finished, stopped, out-of-choices, Ends, tally}
+use Rattle.model.specs.Verdicts.{stop}
+use Rattle.format.specs.Rows.{Row, row, first}
+use Rattle.format.specs.Bytes.{kind-of, table, arrays-of}
+use Rattle.format.specs.Opening.{open-rows}
+use Rattle.format.specs.Plans.{plan-of}
+use Rattle.run.specs.declared.End.{End}
+
+-- "The run is lent host, card and latest memories, a tally": what they hold before it or after it
+pub record Lent : Type 0 where
+  pub host : List ℕ
+  pub card : List ℕ
+  pub latest : List ℕ
+  pub tally : Tally
+
+abbrev pub lent : List ℕ → List ℕ → List ℕ → Tally → Lent
+lent h c l t = record { host = h; card = c; latest = l; tally = t }
+
+-- "and choice bytes", "nonzero meaning first arm or one more turn"
+abbrev pub choices-of : List ℕ → List Bool
+choices-of bytes = map (λ (b : ℕ). not (eqb b 0)) bytes
+
+-- the numbers of opening, "11 .. check or run without kind 2", "19 a memory shorter than the cells; 20 over 65,536 choices"
+unfoldable pub run-rows : List ℕ → List ℕ → Lent → List Row
+run-rows f choices before =
+    let n = cells (arrays-of f) in
+    open-rows f ++ (row (not (eqb (kind-of f) 2)) 11 0
+    ∷ row (ltb (length (before .host)) n || ltb (length (before .card)) n || ltb (length (before .latest)) n) 19 0
+    ∷ row (ltb 65536 (length choices)) 20 0
+    ∷ [])
+
+-- "the card holds 2^64 − 1, never": a stamp in a memory
+abbrev pub number-of : Stamp → ℕ
+number-of never = 18446744073709551615
+number-of (at k) = k
+
+-- a memory whose first n cells are as `held` says: "Cells past the plan's are untouched."
+unfoldable pub memory : ℕ → (ℕ → ℕ) → List ℕ → List ℕ
+memory n held before = table held n ++ drop n before
+
+-- "memories and tally hold the state" of a configuration of the run
+abbrev pub holding : Arrays → Config → Lent → Lent
+holding arrays k before =
+    let n = cells arrays in
+    record {
+      host = memory n (λ c. number-of (k .state .held host c)) (before .host);
+      card = memory n (λ c. number-of (k .state .held card c)) (before .card);
+      latest = memory n (k .state .latest) (before .latest);
+      tally = tally arrays (k .history);
+    }
+
+-- a set of the flags of n arrays: bit a is array a
+unfoldable pub mask : ℕ → (ℕ → Bool) → ℕ
+mask zero flag = 0
+mask (suc n) flag = cond (flag n) 1 0 * 2 ^ n + mask n flag
+
+-- how many of them are set
+unfoldable pub set-flags : ℕ → (ℕ → Bool) → ℕ
+set-flags zero flag = 0
+set-flags (suc n) flag = cond (flag n) 1 0 + set-flags n flag
+
+-- an answer without the figures of a run that is done
+abbrev pub no-end : Verdict → End
+no-end v = record { verdict = v; used = 0; «host_flags» = 0; «card_flags» = 0; «on_host» = 0; «on_card» = 0 }
+
+-- "21 stopped (record and lowest unmet cell); 22 choices spent (record)"; "The end answers done, with the choices used, both sets of flags
+-- and the number of arrays current on each side by their flags."
+abbrev pub end-of : Arrays → List Bool → Config → Ending → End
+end-of arrays cs k finished =
+    let n = length arrays in
+    record {
+      verdict = Accepted;
+      used = length cs - length (k .choices);
+      «host_flags» = mask n (k .state .flag host);
+      «card_flags» = mask n (k .state .flag card);
+      «on_host» = set-flags n (k .state .flag host);
+      «on_card» = set-flags n (k .state .flag card);
+    }
+end-of arrays cs k (stopped r c) = no-end (stop r c)
+end-of arrays cs k (out-of-choices r) = no-end (Refused 22 r)
+
+-- the run ends at a configuration in one way (model, `Endings`): "At 21 and 22 memories and tally hold the state just before the named record,
+-- at done the run's last state"
+pub record Ran (f choices : List ℕ) (before after : Lent) (answer : End) : Type 0 where
+  pub config : Config
+  pub ending : Ending
+  pub ends : Ends (plan-of f) (choices-of choices) config ending
+  pub holds : after ≡ holding (arrays-of f) config before
+  pub answers : answer ≡ end-of (arrays-of f) (choices-of choices) config ending
+
+-- by what the rows say: "Numbers 1 to 17, 19 and 20 change no buffer"
+abbrev pub RunsAs : List ℕ → List ℕ → Lent → Lent → End → Verdict → Type 0
+RunsAs f choices before after answer Accepted = Ran f choices before after answer
+RunsAs f choices before after answer (Stopped r c) = ⊥
+RunsAs f choices before after answer (Refused number place) = (after ≡ before) × (answer ≡ no-end (Refused number place))
+
+-- the promise of the run: what is left in the memories and the tally, and the answer
+unfoldable pub Runs : List ℕ → List ℕ → Lent → Lent → End → Type 0
+Runs f choices before after answer = RunsAs f choices before after answer (first (run-rows f choices before))

@@ -1,0 +1,93 @@
+// The run of a plain plan, and the view of a memory.
+ghost use mathlib.Core.Path.{_≡_};
+ghost use Rattle.format.specs.Opened.{opened};
+ghost use Rattle.run.specs.Running.{Runs, lent};
+use format::Opened;
+use model::Tally;
+use model::Verdict;
+use running::end_of;
+use running::no_end;
+use running::ready;
+use running::run_to_end;
+use running::tally_of;
+
+mod acts;
+mod flags;
+mod machine;
+mod memories;
+mod place;
+mod running;
+pub mod view;
+
+// A run's answer; the figures are those of a run that is done, 0 otherwise.
+pub struct End {
+    pub verdict: Verdict,
+    pub used: u32,
+    pub host_flags: u32,
+    pub card_flags: u32,
+    pub on_host: u32,
+    pub on_card: u32,
+}
+
+// A run's answer, and what its tally has become.
+pub struct Counted {
+    pub end: End,
+    pub tally: Tally,
+}
+
+// The run of a plan file that opening has found to be o, on lent memories, the tally by value.
+pub fn run_opened(
+    plan: &[u8],
+    o: Opened,
+    host: &mut [u64],
+    card: &mut [u64],
+    latest: &mut [u64],
+    choices: &[u8],
+    tally: Tally,
+) -> Counted
+    requires { ⌜ o ≡ opened (now plan) ⌝ }
+    ensures { λ r. ⌜ Runs (now (plan .entry)) (now (choices .entry)) (lent (now (host .entry)) (now (card .entry)) (now (latest .entry)) tally) (lent (now (host .exit)) (now (card .exit)) (now (latest .exit)) (r .tally)) (r .end) ⌝ }
+{
+    let v = ready(plan, o, host, card, latest, choices);
+    let Verdict::Accepted = v else {
+        return Counted {
+            end: no_end(v),
+            tally: tally,
+        };
+    };
+    let m = run_to_end(plan, o, choices, host, card, latest);
+    Counted {
+        end: end_of(m),
+        tally: tally_of(m),
+    }
+}
+
+// Runs a plan file on lent memories, the tally by value.
+pub fn run_counted(
+    plan: &[u8],
+    host: &mut [u64],
+    card: &mut [u64],
+    latest: &mut [u64],
+    choices: &[u8],
+    tally: Tally,
+) -> Counted
+    ensures { λ r. ⌜ Runs (now (plan .entry)) (now (choices .entry)) (lent (now (host .entry)) (now (card .entry)) (now (latest .entry)) tally) (lent (now (host .exit)) (now (card .exit)) (now (latest .exit)) (r .tally)) (r .end) ⌝ }
+{
+    run_opened(plan, format::open(plan), host, card, latest, choices, tally)
+}
+
+// Runs a plan file on lent memories; the tally is lent too, and brought up to date.
+pub fn run(
+    plan: &[u8],
+    host: &mut [u64],
+    card: &mut [u64],
+    latest: &mut [u64],
+    choices: &[u8],
+    tally: &mut Tally,
+) -> End
+    ensures { λ r. ⌜ Runs (now (plan .entry)) (now (choices .entry)) (lent (now (host .entry)) (now (card .entry)) (now (latest .entry)) (now (tally .entry))) (lent (now (host .exit)) (now (card .exit)) (now (latest .exit)) (now (tally .exit))) r ⌝ }
+{
+    let c = run_counted(plan, host, card, latest, choices, *tally);
+    *tally = c.tally;
+    c.end
+}
