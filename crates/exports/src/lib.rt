@@ -1,8 +1,12 @@
 // The functions for C and Rust: include/cuplihang.h declares them.
 ghost use mathlib.Core.Path.{_≡_};
-ghost use Rattle.exports.specs.Packed.{packed, packed-opening, packed-body-view, PackedCheck, packed-judge, packed-expand};
+ghost use Rattle.exports.specs.Packed.{packed, packed-opening, packed-body-view, PackedCheck, packed-judge, packed-expand, tally-of, figures-of, PackedRun, packed-memory-view};
 ghost use Rattle.expand.specs.Expanded.{expanded};
+ghost use Rattle.run.specs.Running.{lent};
+use model::Tally;
 use model::Values;
+use model::Verdict;
+use run::End;
 
 // A packed answer: number, place or record, cell, kind.
 fn pack(kind: u8, v: Values) -> u64
@@ -76,4 +80,74 @@ pub extern "C" fn plan_expand(plan: &[u8], out: &mut [u8]) -> u64
     let judged = judge::judge_opened(plan, o);
     let v = expand::expand_judged(plan, out, judged);
     pack(kind, model::values_of(v, 0))
+}
+
+// The figures of a run that is done.
+fn put_figures(e: End, figures: &mut [u64; 5])
+    ensures { λ _. ⌜ now (figures .exit) ≡ figures-of e (now (figures .entry)) ⌝ }
+{
+    let v = e.verdict;
+    let Verdict::Accepted = v else {
+        return;
+    };
+    *figures = [
+        e.used as u64,
+        e.host_flags as u64,
+        e.card_flags as u64,
+        e.on_host as u64,
+        e.on_card as u64,
+    ];
+}
+
+// Runs a plan on lent memories.
+#[no_mangle]
+pub extern "C" fn plan_run(
+    plan: &[u8],
+    host: &mut [u64],
+    card: &mut [u64],
+    latest: &mut [u64],
+    choices: &[u8],
+    tally: &mut [u64; 3],
+    figures: &mut [u64; 5],
+) -> u64
+    ensures { λ r. ⌜ PackedRun (now (plan .entry)) (now (choices .entry)) (lent (now (host .entry)) (now (card .entry)) (now (latest .entry)) (tally-of (now (tally .entry)))) (lent (now (host .exit)) (now (card .exit)) (now (latest .exit)) (tally-of (now (tally .exit)))) (now (figures .entry)) (now (figures .exit)) r ⌝ }
+{
+    let o = format::open(plan);
+    let kind = o.kind;
+    let before = Tally {
+        reads: tally[0],
+        writes: tally[1],
+        moved: tally[2],
+    };
+    let c = run::run_opened(plan, o, host, card, latest, choices, before);
+    let t = c.tally;
+    *tally = [t.reads, t.writes, t.moved];
+    let e = c.end;
+    let v = e.verdict;
+    put_figures(e, figures);
+    pack(kind, model::values_of(v, 21))
+}
+
+// Which side the view of a memory is of.
+#[no_mangle]
+pub extern "C" fn plan_memory_view(
+    host: &[u64],
+    card: &[u64],
+    latest: &[u64],
+    first: u64,
+    end: u64,
+) -> u64
+    ensures { λ r. ⌜ r ≡ packed-memory-view (now (host .entry)) (now (card .entry)) (now (latest .entry)) first end ⌝ }
+{
+    let view = run::view::memory_side(host, card, latest, first, end);
+    let v = view.verdict;
+    let values = model::values_of(v, 0);
+    pack(
+        0,
+        Values {
+            number: values.number,
+            place: view.side as u16,
+            cell: 0,
+        },
+    )
 }
