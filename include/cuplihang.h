@@ -24,4 +24,15 @@ uint64_t plan_judge(const uint8_t *plan, size_t plan_length);
    output is as it was. Bytes past the file are not touched. Packed as by plan_open. */
 uint64_t plan_expand(const uint8_t *plan, size_t plan_length, uint8_t *out, size_t out_length);
 
+/* Runs a plain plan on lent memories and choices: 0 done; 21 with the record and its lowest unmet cell; 22 with the record whose test finds no choice;
+   1 to 11, 19, 20, and then nothing is changed. `tally` points to three numbers: read records, write records, cells moved. `figures` points to five numbers,
+   written at done only: choices used, host flags, card flags (bit i is array i), arrays current on the host, on the card. Cells past the plan's are not
+   touched. Packed as by plan_open. */
+uint64_t plan_run(const uint8_t *plan, size_t plan_length, uint64_t *host, size_t host_length, uint64_t *card, size_t card_length, uint64_t *latest,
+                  size_t latest_length, const uint8_t *choices, size_t choices_length, uint64_t *tally, uint64_t *figures);
+
+/* Which memory the cells `first` up to `end` are viewed in: number (0 accepted, 23, 24) in bits 0 to 15, the side (0 host, 1 card) in 16 to 31. */
+uint64_t plan_memory_view(const uint64_t *host, size_t host_length, const uint64_t *card, size_t card_length, const uint64_t *latest,
+                          size_t latest_length, uint64_t first, uint64_t end);
+
 #endif
