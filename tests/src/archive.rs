@@ -95,7 +95,7 @@ mod running {
     use super::Answer;
 
     extern "C" {
-        // `tally` points to three numbers, `end` to five; neither has a length.
+        // `tally` points to three numbers, `figures` to five; neither has a length.
         fn plan_run(
             plan: *const u8,
             plan_length: usize,
@@ -108,7 +108,7 @@ mod running {
             choices: *const u8,
             choices_length: usize,
             tally: *mut u64,
-            end: *mut u64,
+            figures: *mut u64,
         ) -> u64;
         fn plan_memory_view(
             host: *const u64,
@@ -122,14 +122,14 @@ mod running {
         ) -> u64;
     }
 
-    /// `tally`: reads, writes, moved. `end`, written at done only: choices
+    /// `tally`: reads, writes, moved. `figures`, written at done only: choices
     /// used, host flags, card flags, arrays current on the host, on the card.
     pub fn run(
         plan: &[u8],
         [host, card, latest]: [&mut [u64]; 3],
         choices: &[u8],
         tally: &mut [u64; 3],
-        end: &mut [u64; 5],
+        figures: &mut [u64; 5],
     ) -> Answer {
         Answer::unpack(unsafe {
             plan_run(
@@ -144,7 +144,7 @@ mod running {
                 choices.as_ptr(),
                 choices.len(),
                 tally.as_mut_ptr(),
-                end.as_mut_ptr(),
+                figures.as_mut_ptr(),
             )
         })
     }

@@ -3,15 +3,21 @@
 //! Nothing is asserted; the ratio is printed.
 
 use cuplihang_tests::generate::*;
+use cuplihang_tests::walker::check::summary;
 use cuplihang_tests::walker::{self, Memories, Tally};
 use std::hint::black_box;
 use std::time::{Duration, Instant};
 
-/// The time of one call of each: the best of several rounds, each long enough to
-/// read. The rounds take turns, so that other load falls on all alike.
+/// The time of one call of each: the best of several rounds, fewer where a call is
+/// long, each long enough to read. The rounds take turns, so that other load falls
+/// on all alike.
 fn times<const N: usize>(mut works: [&mut dyn FnMut(); N]) -> [f64; N] {
     let mut best = [f64::INFINITY; N];
-    for _ in 0..15 {
+    let start = Instant::now();
+    for rounds in 0..15 {
+        if rounds >= 3 && start.elapsed() > Duration::from_secs(5) {
+            break;
+        }
         for (work, best) in works.iter_mut().zip(&mut best) {
             *best = best.min(round(work));
         }
@@ -202,20 +208,30 @@ fn bench_judge() {
 /// Files and one list of choices for all of them.
 fn run_inputs() -> Vec<(Inputs, Vec<u8>)> {
     let mut rng = Rng::new(95);
-    let mut long = vec![1; 65_535];
-    long.push(0);
-    let mut turns = vec![1; 20];
-    turns.push(0);
-    let mixed =
-        [Step::Loop(vec![write(0, 0, 0, 1), need(1, 1), copy(1, 0, 0, 1), read(1, 0, 0, 1), mark(0, 1)])];
-    let mixed = encode(&Draft::plain(&[1, 1], &mixed));
+    let turns = [vec![1; 65_535], vec![0]].concat();
+    let looping =
+        |arrays: &[u16], arm: &[Step]| vec![encode(&Draft::plain(arrays, &[Step::Loop(arm.to_vec())]))];
+    let large = [write(0, 0, 0, 4096), copy(1, 0, 0, 4096), copy(0, 0, 0, 4096)];
+    let mixed = [write(0, 0, 0, 1), need(1, 1), copy(1, 0, 0, 1), read(1, 0, 0, 1), mark(0, 1)];
+    let nested = (0..20).map(|_| nested(&mut rng)).collect();
+    let at_random = choices(&mut rng, 65_536, 90);
     let short = choices(&mut rng, 40, 40);
     vec![
-        (("run: 65,536 choices, copies of 64 cells", vec![encode(&copying(4, 64))]), long.clone()),
-        (("run: 65,536 choices, records of one cell", vec![mixed]), long),
-        (("run: 20 turns of 1,000 copies of 4,096 cells", vec![encode(&copying(1000, 4096))]), turns),
+        (("run: long run, large copies", looping(&[4096], &large)), turns.clone()),
+        (("run: long run, copies of 64 cells", vec![encode(&copying(4, 64))]), turns.clone()),
+        (("run: long run, one-cell records", looping(&[1, 1], &mixed)), turns.clone()),
+        (("run: choices alone", looping(&[1], &[])), turns),
+        (("run: nested branches and loops at random", nested), at_random),
         (("run: ten thousand short runs", small_plans(96, 10_000)), short),
     ]
+}
+
+/// A plan that the check accepts: no run of it stops.
+fn nested(rng: &mut Rng) -> Vec<u8> {
+    let mut draft = plain(rng, &Shape::new(4, 64, 200, 16, 40));
+    let stops = |file: &[u8]| summary(&walker::open(file).unwrap()).map(|stop| stop.record);
+    mend(rng, &mut draft, 10_000, &stops);
+    encode(&draft)
 }
 
 fn bench_run() {
