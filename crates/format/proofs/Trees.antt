@@ -1,6 +1,6 @@
 -- The plan that a file is, for those who walk its records: the block of the records r up to `end`, and the part of body 0, record by record.
 use mathlib.Core.Path.{_≡_, refl, sym, _∙_}
-use mathlib.Core.Bool.{cond}
+use mathlib.Core.Bool.{true, cond}
 use mathlib.Core.List.{List}
 use Prim.Native.Nat.{ℕ, zero, suc, _+_, _≤_, _<_}
 use native.Mathlib.Decide.{decLt}
@@ -137,6 +137,10 @@ module _ (f : List ℕ) where
     unfolding call-leaf
     body0-call j k = rw e (simp between0-made (made-leaf _ _ _ _ f r end h w end (omega arith) (rw e at j) (rw e at k)))
 
+-- a good block is walked whatever its body and its depth
+pub walk-of : {f : List ℕ} {b depth r end : ℕ} → Good f b depth r end → Walkable f r end
+walk-of {b = b} {depth = depth} g = record { body = b; depth = depth; good = g }
+
 -- a record that is neither branch nor loop has no arms
 pub no-arms : (x : Fields) → (x .kind ≡ 6 → ⊥) → (x .kind ≡ 7 → ⊥) → (first-arm x ≡ 0) × (second-arm x ≡ 0)
 unfolding first-arm second-arm
@@ -181,6 +185,11 @@ module _ (f : List ℕ) (w : Facts f) where
     declaration r d g =
         let h : r < first-record f (suc b) = omega (arith, pass-end, w .bounds .declared b l) in
         of-range 16 18 _ (rw (ne-eqb (kind-of f) 2 (λ z. omega arith), ne-eqb b 0 (λ z. omega arith), lt-ltb r _ d) at (good-parts f b 0 r _ h g .tests .allows))
+
+    -- "then kinds 1 to 7"
+    pub pass-kind : (r : ℕ) → first-record f b + declarations-in f b ≤ r → allowed f b r (fields-at f r) ≡ true → (1 ≤ fields-at f r .kind) × (fields-at f r .kind ≤ 7)
+    unfolding allowed
+    pass-kind r h e = of-range 1 7 _ (rw (ne-eqb (kind-of f) 2 (λ z. omega arith), ne-eqb b 0 (λ z. omega arith), le-ltb r (first-record f b + declarations-in f b) h) at e)
 
     pub pass-good : (i : ℕ) → i ≤ declarations-in f b → Good f b 0 (first-record f b + i) (first-record f (suc b))
     pass-good zero h = rw add-zero (w .good b l)

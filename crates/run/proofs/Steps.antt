@@ -26,7 +26,7 @@ use Rattle.format.specs.Plans.{action-of, plan-of}
 use Rattle.format.specs.Inner.Walks.{Plain, Walkable, block-between}
 use Rattle.format.proofs.Laws.Ranges.{in-range}
 use Rattle.format.proofs.Walking.{Parts, good-parts, opened-facts}
-use Rattle.format.proofs.Trees.{block-none, block-branch, block-loop, block-act, no-arms}
+use Rattle.format.proofs.Trees.{block-none, block-branch, block-loop, block-act, walk-of, no-arms}
 use Rattle.format.proofs.Acts.{plain-kind}
 use Rattle.run.specs.declared.acts.Stored.{Stored}
 use Rattle.run.specs.declared.acts.Acted.{Acted}
@@ -46,7 +46,7 @@ step-at arrays k b cs e g = λ i. step arrays (config (e i) (g i) (k .state) (k 
 -- a record of the plan where a place is
 module _ (f : List ℕ) (bodies : ℕ) (w : Plain f bodies) (d r end : ℕ) (part : Part f d r end) (h : r < end) (x : Fields) (e : x ≡ fields-at f r) where
   walk : Walkable f r end
-  walk = record { body = 0; depth = d; good = part .good }
+  walk = walk-of (part .good)
 
   parts : Parts f 0 d r end
   parts = good-parts f 0 d r end h (part .good)

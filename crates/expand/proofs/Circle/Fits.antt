@@ -5,11 +5,10 @@ use mathlib.Core.List.{List, [], _∷_, _++_}
 use Prim.Native.Nat.{ℕ, zero, suc, _+_, _-_, _≤_, _<_}
 use native.Nat.{ℕᴺ-discrete}
 use native.Mathlib.Decide.{decLt}
-use native.Mathlib.Nat.{zero-add}
 use native.Mathlib.Omega.{arith}
 use lib.Dec.{ltb, leb, eqb}
 use lib.ListN.{length}
-use borrow.Author.Tests.{ltb-true, ltb-false, le-ltb, le-leb, ne-eqb}
+use borrow.Author.Tests.{ltb-true, ltb-false, le-leb, ne-eqb}
 use Rattle.model.specs.declared.Verdict.the-variants.{Accepted}
 use Rattle.model.specs.Sides.{Side, Cells, length-of}
 use Rattle.model.specs.Effects.{Action, read, write, copy, need, mark}
@@ -18,18 +17,18 @@ use Rattle.model.specs.Judging.{Declaration, Pass, no-pass, pass-of}
 use Rattle.model.specs.Expanding.{expand}
 use Rattle.model.proofs.Booleans.{and-out, and-in}
 use Rattle.format.specs.declared.Fields.{Fields}
-use Rattle.format.specs.Bytes.{kind-of, array-count, body-count, table, length-at, arrays-of, records-in, declarations-in, sizes-of, first-record, fields-at}
+use Rattle.format.specs.Bytes.{kind-of, array-count, body-count, table, length-at, arrays-of, records-in, declarations-in, first-record, fields-at}
 use Rattle.format.specs.Opening.{between, fields-fit, allowed, deepest, opening}
 use Rattle.format.specs.Plans.{action-of, declaration-of, pass-at, declared-plan-of}
 use Rattle.format.specs.Files.{side-number, action-fields}
 use Rattle.format.specs.Bounds.{all, arrays-fit, cells-fit, action-fits, block-fits, plain-fits}
-use Rattle.format.specs.Inner.Walks.{Good, Walkable, block-between, body0-between}
-use Rattle.format.proofs.Laws.Ranges.{in-range, of-range}
-use Rattle.format.proofs.Laws.Tables.{length-table, getD-table, first-zero, next-record}
+use Rattle.format.specs.Inner.Walks.{Good, block-between, body0-between}
+use Rattle.format.proofs.Laws.Ranges.{in-range}
+use Rattle.format.proofs.Laws.Tables.{length-table, arrays-counted, array-length, next-record}
 use Rattle.format.proofs.Laws.Fields.{fit-declaration}
 use Rattle.format.proofs.Laws.Records.{Tests}
 use Rattle.format.proofs.Walking.{Facts, opened-facts, good-parts}
-use Rattle.format.proofs.Trees.{block-none, block-branch, block-loop, block-act, body0-none, body0-branch, body0-loop, body0-call, body0-body, pass-good, pass-declaration, pass-body}
+use Rattle.format.proofs.Trees.{block-none, block-branch, block-loop, block-act, body0-none, body0-branch, body0-loop, body0-call, walk-of, body0-good, body0-body, pass-kind, pass-good, pass-declaration, pass-body}
 use Rattle.expand.specs.Expanded.{expansion-of}
 use Rattle.expand.proofs.Laws.Fields.{action-again}
 use Rattle.expand.proofs.Laws.Walks.{second, next}
@@ -55,21 +54,16 @@ all-called test e (p ∷ ps) (suc (suc b)) h = all-called test e ps (suc b) (and
 
 -- a record whose fields fit, as an action and as a declaration
 module _ (f : List ℕ) where
-  counted : length (arrays-of f) ≡ array-count f
-  unfolding arrays-of
-  counted = length-table (length-at f) (array-count f)
-
   -- what kinds 1 to 5 and 16 to 18 have in common
   on-array : (side a : ℕ) (x y z : Bool) → (ltb side 2 && ltb a (array-count f) && x && y && z) ≡ true → ltb a (length (arrays-of f)) ≡ true
   on-array side a x y z e =
       let w₁ = and-out (ltb side 2 && ltb a (array-count f) && x && y) z e in
       let w₂ = and-out (ltb side 2 && ltb a (array-count f) && x) y (w₁ .0) in
       let w₃ = and-out (ltb side 2 && ltb a (array-count f)) x (w₂ .0) in
-      rw counted (and-out (ltb side 2) (ltb a (array-count f)) (w₃ .0) .1)
+      rw (arrays-counted f) (and-out (ltb side 2) (ltb a (array-count f)) (w₃ .0) .1)
 
   length-is : (a : ℕ) → ltb a (length (arrays-of f)) ≡ true → length-of (arrays-of f) a ≡ length-at f a
-  unfolding arrays-of
-  length-is a h = getD-table (length-at f) (array-count f) a 0 (rw counted at (ltb-true a (length (arrays-of f)) h))
+  length-is a h = array-length f a (rw (arrays-counted f) at (ltb-true a (length (arrays-of f)) h))
 
   ranged-fits : (s : Side) (x : Cells) → (ltb (side-number s) 2 && ltb (x .array) (array-count f) && true && ltb (x .p) (x .q) && leb (x .q) (length-at f (x .array))) ≡ true → cells-fit (arrays-of f) x ≡ true
   ranged-fits s x e =
@@ -154,26 +148,19 @@ module _ (f : List ℕ) (w : Facts f) (kind : kind-of f ≡ 1) where
   abbrev called-fits : Pass → Bool
   called-fits p = all (λ (d : Declaration). ltb (d .array) (length (arrays-of f))) (p .declarations) && block-fits (arrays-of f) 8 (p .body)
 
-  walk : {b depth r end : ℕ} → Good f b depth r end → Walkable f r end
-  walk {b} {depth} g = record { body = b; depth = depth; good = g }
-
   module _ (b : ℕ) (p : 1 ≤ b) (l : b < body-count f) where
     abbrev until : ℕ
     until = first-record f b + declarations-in f b
 
-    pass-kind : (r : ℕ) → until ≤ r → allowed f b r (fields-at f r) ≡ true → (1 ≤ fields-at f r .kind) × (fields-at f r .kind ≤ 7)
-    unfolding allowed
-    pass-kind r h e = of-range 1 7 _ (rw (ne-eqb (kind-of f) 2 (λ z. omega arith), ne-eqb b 0 (λ z. omega arith), le-ltb r until h) at e)
-
     pass-parted : Parted f kind b until 8 (omega arith) (block-between f)
     pass-parted = record {
       none = block-none f;
-      branch = λ depth r end m g k. (r, block-branch f r end m (walk g) (fields-at f r) refl k);
-      loop = λ depth r end m g k. (r, block-loop f r end m (walk g) (fields-at f r) refl k);
+      branch = λ depth r end m g k. (r, block-branch f r end m (walk-of g) (fields-at f r) refl k);
+      loop = λ depth r end m g k. (r, block-loop f r end m (walk-of g) (fields-at f r) refl k);
       other = λ levels depth r end d e h m g j k rest.
           let t = good-parts f b depth r end m g .tests in
-          let kinds = pass-kind r h (t .allows) in
-          rw (block-act f r end m (walk g) (fields-at f r) refl j k) (and-in _ _ (action-fit f (fields-at f r) (t .fits) (kinds .0) (omega arith)) rest);
+          let kinds = pass-kind f w kind b p l r h (t .allows) in
+          rw (block-act f r end m (walk-of g) (fields-at f r) refl j k) (and-in _ _ (action-fit f (fields-at f r) (t .fits) (kinds .0) (omega arith)) rest);
     }
 
     declarations-fit : all (λ (d : Declaration). ltb (d .array) (length (arrays-of f))) (pass-at f b .declarations) ≡ true
@@ -200,25 +187,19 @@ module _ (f : List ℕ) (w : Facts f) (kind : kind-of f ≡ 1) where
   body0-parted : Parted f kind 0 0 16 (omega arith) (λ r end. expand passes (body0-between f r end))
   body0-parted = record {
     none = λ r end h. ap (expand passes) (body0-none f r end h);
-    branch = λ depth r end m g k. (0, ap (expand passes) (body0-branch f r end m (walk g) (fields-at f r) refl k));
-    loop = λ depth r end m g k. (0, ap (expand passes) (body0-loop f r end m (walk g) (fields-at f r) refl k));
+    branch = λ depth r end m g k. (0, ap (expand passes) (body0-branch f r end m (walk-of g) (fields-at f r) refl k));
+    loop = λ depth r end m g k. (0, ap (expand passes) (body0-loop f r end m (walk-of g) (fields-at f r) refl k));
     other = λ levels depth r end d e h m g j k rest.
         let called = pass-of passes (fields-at f r .p) in
         let fit = and-out (all (λ (c : Declaration). ltb (c .array) (length (arrays-of f))) (called .declarations)) (block-fits (arrays-of f) 8 (called .body)) (all-called called-fits refl passes (fields-at f r .p) passes-fit) in
-        rw (ap (expand passes) (body0-call f r end m (walk g) (fields-at f r) refl j k))
+        rw (ap (expand passes) (body0-call f r end m (walk-of g) (fields-at f r) refl j k))
         (declared-fits (arrays-of f) (called .declarations) _ levels (fit .0) (then-fits (arrays-of f) (called .body) _ levels (more-levels (arrays-of f) (called .body) 8 levels (omega arith) (fit .1)) rest));
   }
-
-  body0-good : Good f 0 0 0 (records-in f 0)
-  body0-good =
-      let start = first-zero (sizes-of f) in
-      let end : first-record f 1 ≡ records-in f 0 = next-record f 0 (omega (arith, w .bounds .header .bodies)) ∙ rw start (zero-add (records-in f 0)) in
-      rw (start, end) at (w .good 0 (omega (arith, w .bounds .header .bodies)))
 
   block-within : block-fits (arrays-of f) 16 (expansion-of f .body) ≡ true
   block-within =
       numbered-fits (arrays-of f) 0 (expand passes (declared-plan-of f .body0)) 16
-      ∙ rw (body0-body f w) (body-fits f kind 0 0 16 (omega arith) (λ r end. expand passes (body0-between f r end)) body0-parted 0 (records-in f 0) (omega arith) body0-good)
+      ∙ rw (body0-body f w) (body-fits f kind 0 0 16 (omega arith) (λ r end. expand passes (body0-between f r end)) body0-parted 0 (records-in f 0) (omega arith) (body0-good f w))
 
 pub expansion-fits : (f : List ℕ) → opening f ≡ Accepted → kind-of f ≡ 1 → size (expansion-of f .body) ≤ 1024 → plain-fits (expansion-of f) ≡ true
 unfolding declared-plan-of

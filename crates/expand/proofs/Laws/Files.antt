@@ -8,11 +8,11 @@ use lib.Seq.{length-take-le}
 use borrow.Rule.Slice.PartMut.{midOf, putMid}
 use Rattle.model.specs.Sides.{Arrays}
 use Rattle.format.specs.declared.Fields.{Fields}
-use Rattle.format.specs.Bytes.{byte-at, array-count, length-at, arrays-of, entry-at, records-in}
+use Rattle.format.specs.Bytes.{byte-at, array-count, arrays-of, entry-at, records-in}
 use Rattle.format.specs.Sums.{check-bytes}
 use Rattle.format.specs.Plans.{declared-plan-of}
 use Rattle.format.specs.Files.{u16-bytes, record-bytes, Body, joined, front, file}
-use Rattle.format.proofs.Laws.Tables.{length-table}
+use Rattle.format.proofs.Laws.Tables.{arrays-counted}
 use Rattle.format.proofs.Walking.{opened-facts}
 use Rattle.format.proofs.RoundTrip.{plain-length}
 use Rattle.expand.specs.Expanded.{expansion-of, expansion-file}
@@ -56,13 +56,9 @@ module _ (f : List ℕ) (given : DeclaredFile f) where
   unfolding entry-at
   contents-within = omega (arith, opened-facts f (given .opened) .bounds .long)
 
-  counted : length (arrays-of f) ≡ array-count f
-  unfolding arrays-of
-  counted = length-table (length-at f) (array-count f)
-
   pub expansion-length : length (expansion-file f) ≡ 4 + 2 * array-count f + 4 + 8 * place f (records-in f 0) + 2
   unfolding declared-plan-of
-  expansion-length = plain-length (expansion-of f) ∙ omega (arith, counted, expansion-size f given)
+  expansion-length = plain-length (expansion-of f) ∙ omega (arith, arrays-counted f, expansion-size f given)
 
   pub lengths-length : length (lengths-written f) ≡ 4 + 2 * array-count f
   unfolding lengths-written
@@ -80,7 +76,7 @@ module _ (f : List ℕ) (given : DeclaredFile f) where
 
   written-is : ((i : ℕ) → byte-at f i < 256) → records-written f ≡ summed (arrays-of f) (pieces f (records-in f 0))
   unfolding records-written contents-written lengths-written
-  written-is small = rw (counted, lengths-again f small contents-within, pieces-length f (records-in f 0))
+  written-is small = rw (arrays-counted f, lengths-again f small contents-within, pieces-length f (records-in f 0))
 
   file-is : ((i : ℕ) → byte-at f i < 256) → records-written f ++ check-bytes (records-written f) ≡ expansion-file f
   unfolding declared-plan-of

@@ -9,20 +9,19 @@ use native.Mathlib.Omega.{arith}
 use lib.Dec.{eqb}
 use lib.ListN.{length, getD, take, drop, length-append}
 use borrow.Rule.Slice.PartMut.{midOf, putMid}
-use borrow.Author.Tests.{le-ltb, eq-eqb, ne-eqb}
+use borrow.Author.Tests.{eq-eqb, ne-eqb}
 use Rattle.model.specs.Blocks.{Block, size}
 use Rattle.model.specs.Judging.{R, W, RW}
 use Rattle.model.specs.Expanding.{given}
 use Rattle.format.specs.declared.Fields.{Fields}
 use Rattle.format.specs.Bytes.{byte-at, kind-of, body-count, table, records-in, declarations-in, sizes-of, first-record, record-count, bodies-at, fields-at}
-use Rattle.format.specs.Opening.{allowed, first-arm, second-arm}
+use Rattle.format.specs.Opening.{first-arm, second-arm}
 use Rattle.format.specs.Plans.{side-of, declaration-of, pass-at}
 use Rattle.format.specs.Files.{record-bytes, fields, block-fields}
-use Rattle.format.specs.Inner.Walks.{Good, Walkable, block-between}
-use Rattle.format.proofs.Laws.Ranges.{of-range}
+use Rattle.format.specs.Inner.Walks.{block-between}
 use Rattle.format.proofs.Laws.Tables.{length-table, next-record, first-rises}
 use Rattle.format.proofs.Walking.{Facts, opened-facts, good-parts}
-use Rattle.format.proofs.Trees.{block-none, block-branch, block-loop, block-act, no-arms, pass-good, pass-declaration, pass-body}
+use Rattle.format.proofs.Trees.{block-none, block-branch, block-loop, block-act, walk-of, no-arms, pass-kind, pass-good, pass-declaration, pass-body}
 use Rattle.format.proofs.Files.Records.{fields-count}
 use Rattle.expand.specs.Inner.Parts.{DeclaredFile, DeclarationsAt, BodyStarts, over, bytes-of, given-by, declared-from, called}
 use Rattle.expand.proofs.Laws.Over.{over-lent}
@@ -157,23 +156,16 @@ module _ (f : List ℕ) (file : DeclaredFile f) (b : ℕ) (p : 1 ≤ b) (l : b <
         declaration-side f _ (good-parts f b 0 _ _ (omega (arith, w .bounds .declared b l, next-record f b l)) g .tests .fits) (d .0) (d .1);
   }
 
-  walk : (depth r end : ℕ) → Good f b depth r end → Walkable f r end
-  walk depth r end g = record { body = b; depth = depth; good = g }
-
-  pass-kind : (r : ℕ) → until ≤ r → allowed f b r (fields-at f r) ≡ true → (1 ≤ fields-at f r .kind) × (fields-at f r .kind ≤ 7)
-  unfolding allowed
-  pass-kind r h e = of-range 1 7 _ (rw (ne-eqb (kind-of f) 2 (λ z. omega arith), ne-eqb b 0 (λ z. omega arith), le-ltb r until h) at e)
-
   pass-made : Made f b until (table (fields-at f)) (block-between f)
   unfolding table second-arm
   pass-made = record {
     none = block-none f;
     nested = λ depth r end h m g u v. elim (ℕᴺ-discrete (fields-at f r .kind) 6) [
-      | yes e ↦ branch-fields _ r _ _ _ _ (block-branch f r end m (walk depth r end g) (fields-at f r) refl e) e
+      | yes e ↦ branch-fields _ r _ _ _ _ (block-branch f r end m (walk-of g) (fields-at f r) refl e) e
       | no z ↦
           let e : fields-at f r .kind ≡ 7 = omega arith in
           let s : second-arm (fields-at f r) ≡ 0 = rw (ne-eqb (fields-at f r .kind) 6 z) in
-          loop-fields _ r _ _ _ _ (block-loop f r end m (walk depth r end g) (fields-at f r) refl e) (block-none f (second f r) (next f r) (omega arith)) e
+          loop-fields _ r _ _ _ _ (block-loop f r end m (walk-of g) (fields-at f r) refl e) (block-none f (second f r) (next f r) (omega arith)) e
     ];
     grows = λ r h t u v.
         let x = fields-at f r in
@@ -183,10 +175,10 @@ module _ (f : List ℕ) (file : DeclaredFile f) (b : ℕ) (p : 1 ≤ b) (l : b <
     other = λ depth r end h m g i j.
         let x = fields-at f r in
         let q = good-parts f b depth r end m g in
-        let kind = pass-kind r h (q .tests .allows) in
+        let kind = pass-kind f w k b p l r h (q .tests .allows) in
         let a = no-arms x i j in
         let e : next f r ≡ r + 1 = omega (arith, a) in
-        rw (block-act f r end m (walk depth r end g) x refl i j, e, action-again f x (q .tests .fits) (omega arith) (omega arith), add-one, append-assoc);
+        rw (block-act f r end m (walk-of g) x refl i j, e, action-again f x (q .tests .fits) (omega arith) (omega arith), add-one, append-assoc);
   }
 
   -- the records of a call

@@ -18,11 +18,11 @@ use Rattle.format.specs.Bytes.{kind-of, body-count, records-in, sizes-of, first
 use Rattle.format.specs.Opening.{allowed, first-arm, second-arm}
 use Rattle.format.specs.Plans.{pass-at, declared-plan-of}
 use Rattle.format.specs.Files.{record-bytes, fields, block-fields}
-use Rattle.format.specs.Inner.Walks.{Good, body0-between}
+use Rattle.format.specs.Inner.Walks.{body0-between}
 use Rattle.format.proofs.Laws.Ranges.{of-range}
 use Rattle.format.proofs.Laws.Tables.{getD-table, first-zero, first-rises, next-record}
 use Rattle.format.proofs.Walking.{Facts, opened-facts, good-parts}
-use Rattle.format.proofs.Trees.{body0-none, body0-branch, body0-loop, body0-call, body0-body, no-arms}
+use Rattle.format.proofs.Trees.{body0-none, body0-branch, body0-loop, body0-call, walk-of, no-arms, body0-good, body0-body}
 use Rattle.format.proofs.Files.Records.{fields-count}
 use Rattle.expand.specs.Expanded.{expansion-of}
 use Rattle.expand.specs.Inner.Parts.{DeclaredFile, over, bytes-of, BodyStarts, PassSizes, Places, called, record-size, place, piece, pieces}
@@ -142,9 +142,6 @@ module _ (f : List ℕ) (file : DeclaredFile f) where
   body0-ends : first-record f 1 ≡ end
   body0-ends = next-record f 0 (omega (arith, w .bounds .header .bodies)) ∙ rw (first-zero (sizes-of f)) (zero-add end)
 
-  body0-good : Good f 0 0 0 end
-  body0-good = rw (first-zero (sizes-of f), body0-ends) at (w .good 0 (omega (arith, w .bounds .header .bodies)))
-
   pub end-read : (starts : List ℕ) → BodyStarts f starts → getD starts 1 0 ≡ end
   end-read starts s = s .each 1 (w .bounds .header .bodies .0) ∙ body0-ends
 
@@ -154,7 +151,7 @@ module _ (f : List ℕ) (file : DeclaredFile f) where
 
   -- record r of body 0
   pub body0-tested : (r : ℕ) → r < end → Tested f 0 end r
-  body0-tested r h = good-tested f 0 0 0 end body0-good r (omega arith) h
+  body0-tested r h = good-tested f 0 0 0 end (body0-good f w) r (omega arith) h
 
   pub body0-nested : (r : ℕ) → r < end → (fields-at f r .kind ≡ 8 → ⊥) → (6 ≤ fields-at f r .kind) × (fields-at f r .kind ≤ 7)
   body0-nested r h z = let n = body0-kind r (body0-tested r h .allows) in (n .0, omega arith)
@@ -220,11 +217,11 @@ module _ (f : List ℕ) (file : DeclaredFile f) where
   pieces-made = record {
     none = λ r end h. ap (expand passes) (body0-none f r end h);
     nested = λ depth r end h m g u v. elim (ℕᴺ-discrete (fields-at f r .kind) 6) [
-      | yes e ↦ branch-fields _ 0 _ _ _ _ (ap (expand passes) (body0-branch f r end m (record { body = 0; depth = depth; good = g }) (fields-at f r) refl e)) e
+      | yes e ↦ branch-fields _ 0 _ _ _ _ (ap (expand passes) (body0-branch f r end m (walk-of g) (fields-at f r) refl e)) e
       | no z ↦
           let e : fields-at f r .kind ≡ 7 = omega arith in
           let s : second-arm (fields-at f r) ≡ 0 = rw (ne-eqb (fields-at f r .kind) 6 z) in
-          loop-fields _ 0 _ _ _ _ (ap (expand passes) (body0-loop f r end m (record { body = 0; depth = depth; good = g }) (fields-at f r) refl e)) (ap (expand passes) (body0-none f (second f r) (next f r) (omega arith))) e
+          loop-fields _ 0 _ _ _ _ (ap (expand passes) (body0-loop f r end m (walk-of g) (fields-at f r) refl e)) (ap (expand passes) (body0-none f (second f r) (next f r) (omega arith))) e
     ];
     grows = λ r h t u v. simp pieces-length (pieces-more f r ∙ rw (piece-nested f r (λ z. omega arith)));
     other = λ depth r end h m g i j.
@@ -234,12 +231,12 @@ module _ (f : List ℕ) (file : DeclaredFile f) where
         let a = no-arms (fields-at f r) i j in
         let step : next f r ≡ r + 1 = omega (arith, a) in
         let c = call-body f (fields-at f r) (q .tests .fits) e in
-        ap (λ (b : Body0). pieces f r ++ block-fields (expand passes b)) (body0-call f r end m (record { body = 0; depth = depth; good = g }) (fields-at f r) refl i j)
+        ap (λ (b : Body0). pieces f r ++ block-fields (expand passes b)) (body0-call f r end m (walk-of g) (fields-at f r) refl i j)
         ∙ rw (pieces-more f r, piece-call f r e, append-assoc, step, called-then (fields-at f r .p) (c .0) (c .1) (expand passes (body0-between f (r + 1) end)));
   }
 
   body0-pieces : block-fields (part 0 end) ≡ pieces f end
-  body0-pieces = rw (pieces-none f) at (made-between f 0 0 (pieces f) part pieces-made 0 0 end (omega arith) (omega arith) body0-good)
+  body0-pieces = rw (pieces-none f) at (made-between f 0 0 (pieces f) part pieces-made 0 0 end (omega arith) (omega arith) (body0-good f w))
 
   expanded-body : expansion-of f .body ≡ numbered 0 (part 0 end)
   unfolding part

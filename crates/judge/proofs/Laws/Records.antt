@@ -9,14 +9,14 @@ use native.Mathlib.Omega.{arith}
 use lib.Dec.{ltb, eqb}
 use borrow.Author.Tests.{ltb-true, leb-true, eqb-true, le-ltb, ne-eqb}
 use Rattle.model.proofs.Booleans.{and-out}
-use Rattle.model.specs.Sides.{is, length-of}
+use Rattle.model.specs.Sides.{is}
 use Rattle.format.specs.declared.Fields.{Fields}
-use Rattle.format.specs.Bytes.{kind-of, array-count, body-count, length-at, arrays-of, declarations-in, sizes-of, first-record, fields-at}
+use Rattle.format.specs.Bytes.{kind-of, array-count, body-count, length-at, declarations-in, sizes-of, first-record, fields-at}
 use Rattle.format.specs.Opening.{fields-fit, allowed, first-arm, second-arm}
 use Rattle.format.specs.Inner.Walks.{Good, Walkable, block-between}
 use Rattle.format.specs.Plans.{side-of, pass-at}
 use Rattle.format.proofs.Laws.Ranges.{of-range}
-use Rattle.format.proofs.Laws.Tables.{getD-table, first-rises, next-record}
+use Rattle.format.proofs.Laws.Tables.{first-rises, next-record}
 use Rattle.format.proofs.Laws.Fields.{Sizes, fit-cells, fit-array, fit-declaration, fit-branch, fit-loop}
 use Rattle.format.proofs.Walking.{Facts, opened-facts, good-parts}
 use Rattle.format.proofs.Trees.{pass-declaration, pass-walk, pass-body}
@@ -29,10 +29,6 @@ same-side s t h k = elim (ℕᴺ-discrete s 0) [
   | yes u ↦ elim (ℕᴺ-discrete t 0) [ yes v ↦ rw (u, v) | no v ↦ let w : t ≡ 1 = omega arith in rw (u, w) ]
   | no u ↦ let z : s ≡ 1 = omega arith in elim (ℕᴺ-discrete t 0) [ yes v ↦ rw (z, v) | no v ↦ let w : t ≡ 1 = omega arith in rw (z, w) ]
 ]
-
-pub array-length : (f : List ℕ) (a : ℕ) → a < array-count f → length-of (arrays-of f) a ≡ length-at f a
-unfolding arrays-of
-array-length f a h = getD-table (length-at f) (array-count f) a 0 h
 
 -- what the rule of the fields says
 module _ (f : List ℕ) (x : Fields) (fits : fields-fit f x ≡ true) where

@@ -18,9 +18,10 @@ use Rattle.format.specs.Opening.{first-arm, second-arm}
 use Rattle.format.specs.Plans.{side-of, action-of}
 use Rattle.format.specs.Inner.Walks.{Walkable}
 use Rattle.format.proofs.Walking.{steps}
+use Rattle.format.proofs.Laws.Tables.{array-length}
 use Rattle.format.proofs.Trees.{block-none, block-branch, block-loop, block-act}
 use Rattle.judge.specs.Inner.Marks.{marked, Adds, Tables, hits, always}
-use Rattle.judge.proofs.Laws.Records.{same-side, array-length, cells-fit}
+use Rattle.judge.proofs.Laws.Records.{same-side, cells-fit}
 
 -- a record that is no write writes no cell
 no-write : (arrays : Arrays) (s : Side) (c : ℕ) (x : Fields) → (x .kind ≡ 2 → ⊥) → writes-cell arrays s c (action-of x) ≡ false
