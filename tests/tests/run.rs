@@ -393,20 +393,13 @@ fn a_small_stack() {
 #[test]
 fn near_runners_differ() {
     let mut rng = Rng::new(84);
-    let wrong = [
-        Runner::MovesSomeCells,
-        Runner::EndStateAtOnce,
-        Runner::SpentAtOnce,
-        Runner::InventedTally,
-        Runner::CountsIdleNeeds,
-    ];
     let mut differs: BTreeMap<String, usize> = BTreeMap::new();
     for _ in 0..3000 {
         let (file, list) = some_run(&mut rng);
         let plan = walker::open(&file).unwrap();
         let lent = Lent::beyond(&file, 0);
         let (answer, ours) = match_run(&file, &list, &lent, &mut Counts::new());
-        for runner in wrong {
+        for runner in Runner::ALL {
             let mut theirs = lent.clone();
             let other = theirs.walk(&file, |memories, tally| runner.run(&plan, memories, &list, tally));
             *differs.entry(format!("{runner:?}")).or_default() +=
@@ -414,7 +407,7 @@ fn near_runners_differ() {
         }
     }
     println!("{differs:?}");
-    assert!(differs.len() == wrong.len() && differs.values().all(|&count| count > 0));
+    assert!(differs.len() == Runner::ALL.len() && differs.values().all(|&count| count > 0));
 }
 
 // ---- The memory view ----

@@ -326,6 +326,14 @@ pub enum Runner {
 }
 
 impl Runner {
+    pub const ALL: [Runner; 5] = [
+        Runner::MovesSomeCells,
+        Runner::EndStateAtOnce,
+        Runner::SpentAtOnce,
+        Runner::InventedTally,
+        Runner::CountsIdleNeeds,
+    ];
+
     pub fn run(self, plan: &Plan, memories: &mut Memories, choices: &[u8], tally: &mut Tally) -> RunEnd {
         if self == Runner::SpentAtOnce {
             run_plan(&empty_like(plan), memories, &[], tally);

@@ -103,13 +103,6 @@ fn runs_of_expansions() {
 #[test]
 fn each_near_runner_differs() {
     let mut rng = Rng::new(51);
-    let wrong = [
-        Runner::MovesSomeCells,
-        Runner::EndStateAtOnce,
-        Runner::SpentAtOnce,
-        Runner::InventedTally,
-        Runner::CountsIdleNeeds,
-    ];
     let mut differs: BTreeMap<String, usize> = BTreeMap::new();
     for _ in 0..3000 {
         let shape = Shape::small(&mut rng);
@@ -117,7 +110,7 @@ fn each_near_runner_differs() {
         let length = rng.between(0, 6);
         let list = choices(&mut rng, length, 40);
         let right = Lent::new(plan.cells()).run(&plan, &list);
-        for runner in wrong {
+        for runner in Runner::ALL {
             let mut lent = Lent::new(plan.cells());
             let sides = [&mut lent.host[..], &mut lent.card[..]];
             let mut memories = Memories { sides, latest: &mut lent.latest };
@@ -126,7 +119,7 @@ fn each_near_runner_differs() {
         }
     }
     println!("{differs:?}");
-    assert_eq!(differs.len(), wrong.len());
+    assert_eq!(differs.len(), Runner::ALL.len());
     assert!(differs.values().all(|&count| count > 0));
 }
 
