@@ -1,7 +1,7 @@
--- `plancheck::read_out` ends: the measure is the number of turns that are left.
+-- `console::read_out` ends: the measure is the number of turns that are left.
 use native.Mathlib.Omega.{arith}
-use Rattle.plancheck.proofs.read_out.Statement.{statement}
-use Rattle.plancheck.proofs.read_out.Tie as tie
+use Rattle.console.proofs.read_out.Statement.{statement}
+use Rattle.console.proofs.read_out.Tie as tie
 
 abbrev Inv-loop : tie.InvT-loop
 Inv-loop turns₀ turns = Unit {0}
