@@ -67,6 +67,13 @@ passed [] b e = (refl, e)
 passed (row true n p ∷ a) b e = absurd (refused e refl)
 passed (row false n p ∷ a) b e = passed a b e
 
+-- a row whose condition does not hold where no earlier one does decides nothing
+pub unheld : (a b : List Row) (c : Bool) (n p : ℕ) → (Accepted ≡ first a → c ≡ false) → first (a ++ (row c n p ∷ b)) ≡ first (a ++ b)
+unfolding first
+unheld [] b c n p h = rw (h refl)
+unheld (row true m q ∷ a) b c n p h = refl
+unheld (row false m q ∷ a) b c n p h = unheld a b c n p h
+
 -- entry by entry
 module _ (rows : ℕ → List Row) where
   pub each-none : Accepted ≡ first (each 0 rows)

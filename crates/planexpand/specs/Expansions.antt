@@ -1,0 +1,44 @@
+-- What planexpand writes (document 01, 'Judging and expanding').
+use Prim.Native.Nat.{ℕ, _+_, _*_}
+use mathlib.Core.Path.{_≡_}
+use mathlib.Core.List.{List, [], _∷_, _++_}
+use lib.ListN.{take}
+use lib.Dec.{ltb}
+use Rattle.io.specs.Counts.{Counts}
+use Rattle.model.specs.declared.Verdict.{Verdict}
+use Rattle.model.specs.declared.Verdict.the-variants.{Accepted, Stopped, Refused}
+use Rattle.model.specs.Verdicts.{values-of}
+use Rattle.model.specs.Blocks.{size}
+use Rattle.format.specs.Rows.{row, first}
+use Rattle.format.specs.Bytes.{entry-at, records-in}
+use Rattle.format.specs.Opened.{opened}
+use Rattle.judge.specs.Judged.{judge-rows}
+use Rattle.expand.specs.Expanded.{expansion-of, expansion-file, expand-answer, expanded}
+use Rattle.planexpand.specs.declared.Expansion.{Expansion}
+
+-- the length of a plain plan's file, by the contents that stand at the front of the output
+unfoldable pub size-by-contents : List ℕ → ℕ
+size-by-contents out = entry-at out 0 + 4 + 8 * records-in out 0 + 2
+
+-- what goes to standard output: the expansion's file, at a refusal nothing
+abbrev pub shown : List ℕ → Verdict → List ℕ
+shown f Accepted = expansion-file f
+shown f (Stopped r c) = []
+shown f (Refused number place) = []
+
+-- the judge's numbers, then "16 expansion over 1,024 records"
+unfoldable pub answer-with-room : List ℕ → Verdict
+answer-with-room f = first (judge-rows f ++ (row (ltb 1024 (size (expansion-of f .body))) 16 0 ∷ []))
+
+-- of a plan file f, with the output before and after
+pub record ExpansionOf (f before after : List ℕ) (e : Expansion) : Type 0 where
+  -- "kind (0 if not opened)"
+  pub kind : e .kind ≡ opened f .kind
+  -- the expander's answer, of which a stop is none
+  pub values : e .values ≡ values-of 0 (expand-answer f before)
+  -- number 17 is never the answer: the output has room for every expansion
+  pub roomy : expand-answer f before ≡ answer-with-room f
+  -- the output is the expander's, and so many bytes of it are written
+  pub output : after ≡ expanded f before
+  pub size : Counts (e .size) after
+  pub writes : take (e .size) after ≡ shown f (expand-answer f before)

@@ -1,0 +1,65 @@
+// Reads a declared plan file from standard input and writes its expansion's file to standard output. At a refusal it writes one line to
+// standard error, as plancheck does: the file's kind (0 if it does not open), the answer's number, place, cell (0).
+ghost use mathlib.Core.Path.{_≡_};
+ghost use Rattle.planexpand.specs.Expansions.{size-by-contents, ExpansionOf};
+use console::ROOM;
+use format::bytes::entry_at;
+use format::bytes::u16_at;
+use libc::STDERR_FILENO;
+use libc::STDOUT_FILENO;
+use model::Values;
+use model::Verdict;
+
+// The largest expansion's file: 32 arrays, 1,024 records.
+const LARGEST: usize = 8266;
+
+// What is written: so many bytes of the output, or the line of a refusal.
+struct Expansion {
+    kind: u8,
+    values: Values,
+    size: usize,
+}
+
+// How long the file of a plain plan is that stands at the front of the output, by its contents.
+fn file_size(out: &[u8]) -> usize
+    ensures { λ r. ⌜ r ≡ size-by-contents (now (out .entry)) ⌝ }
+{
+    let entry = entry_at(out, 0);
+    entry + 4 + 8 * (u16_at(out, entry) as usize) + 2
+}
+
+// Expands a plan file of any bytes into an output that has room for every expansion.
+fn expansion_of(plan: &[u8], out: &mut [u8; LARGEST]) -> Expansion
+    ensures { λ r. ⌜ ExpansionOf (now (plan .entry)) (now (out .entry)) (now (out .exit)) r ⌝ }
+{
+    let o = format::open(plan);
+    let kind = o.kind;
+    let judged = judge::judge_opened(plan, o);
+    let answer = expand::expand_judged(plan, out, judged);
+    let values = model::values_of(answer, 0);
+    let Verdict::Accepted = answer else {
+        return Expansion {
+            kind: kind,
+            values: values,
+            size: 0,
+        };
+    };
+    Expansion {
+        kind: kind,
+        values: values,
+        size: file_size(out),
+    }
+}
+
+fn main() {
+    let mut room = [0u8; ROOM];
+    let n = console::read_plan(&mut room);
+    let mut out = [0u8; LARGEST];
+    let e = expansion_of(&room[..n], &mut out);
+    let size = e.size;
+    io::write_all(STDOUT_FILENO, &out[..size]);
+    let values = e.values;
+    if values.number != 0 {
+        console::print_answer(STDERR_FILENO, e.kind, values);
+    }
+}

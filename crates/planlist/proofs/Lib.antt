@@ -1,0 +1,2 @@
+-- What the proofs of the listing's functions cite.
+pub mod Found

@@ -1,0 +1,136 @@
+-- `block`: at most a page waits, and the records left can be walked. The measure is the number of records.
+use borrow.Author.Needs.{needs}
+use Prim.Native.Nat.{ℕ, _-_, _≤_, _<_}
+use native.Mathlib.Omega.{arith}
+use Rattle.format.specs.Inner.Walks.{Walkable}
+use Rattle.format.proofs.Walking.{steps}
+use Rattle.format.proofs.Acts.{Arms, arms}
+use borrow.Fn.Kinds.{In}
+use borrow.Fn.PlainCycle.{Measures, is, falls, and}
+use Rattle.planlist.proofs.block.block.Reads as block
+use Rattle.planlist.proofs.block.block.Kinds as block-kinds
+use Rattle.planlist.proofs.block.+block.Lts-block as block-lts
+use Rattle.format.proofs.bytes.fields_at.Reads as fields-at-reads
+use Rattle.format.proofs.bytes.first_arm.Reads as first-arm-reads
+use Rattle.format.proofs.bytes.second_arm.Reads as second-arm-reads
+use Rattle.planlist.proofs.records.else_line.Reads as else-line-reads
+use Rattle.planlist.proofs.records.empty_line.Reads as empty-line-reads
+use Rattle.planlist.proofs.records.record_line.Reads as record-line-reads
+use Rattle.planlist.proofs.block.+block.{statement}
+use Rattle.planlist.proofs.block.+block.Tie.{close}
+
+abbrev μ-block : Measures 2 block-kinds.ps ℕ
+μ-block κs a = a .1 .1 .1 .1 .1 .0 - a .1 .1 .1 .1 .0
+
+abbrev block-at : ℕ → In 2 block-kinds.ps
+block-at t = and 2 block-kinds.ps (is 2 block-kinds.ps μ-block t) block.Pre
+
+abbrev block-below : ℕ → In 2 block-kinds.ps
+block-below t = and 2 block-kinds.ps (falls 2 block-kinds.ps _<_ μ-block t) block.Pre
+
+abbrev block-Inv-loop : block-lts.InvT-loop
+block-Inv-loop page₀ at plan level from end waiting₀ r₀ page waiting r = (waiting ≤ 4096) × (from ≤ r) × (r ≤ end) × Walkable plan r end
+
+abbrev block-μ-loop : block-lts.MeasureT-loop
+block-μ-loop page₀ at plan level from end waiting₀ r₀ page waiting r = end - r
+
+-- what each callee asks and gives, this one below t
+abbrev calls : ℕ → block-lts.Claims
+calls t = (fields-at-reads.Asked, fields-at-reads.Learnt, first-arm-reads.Asked, first-arm-reads.Learnt, second-arm-reads.Asked, second-arm-reads.Learnt, record-line-reads.Asked, record-line-reads.Learnt, empty-line-reads.Asked, empty-line-reads.Learnt, block-below t, block.Post, else-line-reads.Asked, else-line-reads.Learnt)
+
+-- what is known of record r's arms once they are read
+known : (t : ℕ) (c : block-lts.After-second-arm (calls t) (block-at t) block.Post block-Inv-loop block-μ-loop) → Arms (c .before .before .before .before .before .before .args .plan .now) (c .before .before .before .before .loop .r) (c .before .before .before .before .before .before .args .end) (c .before .first-arm .result) (c .second-arm .result)
+known t c =
+    let l = c .before .before .before .before .loop in
+    arms (steps _ _ _ (c .before .before .before .loop-test .taken) (l .inv .3) _ (c .before .before .fields-at .ensures)) _ _ (c .before .first-arm .ensures .0) (c .second-arm .ensures .0)
+
+block-loop-holds : (t : ℕ) → block-lts.Need-loop-holds (calls t) (block-at t) block.Post block-Inv-loop block-μ-loop
+block-loop-holds t c = (search needs, search needs, search needs, c .before .pre .1 .4)
+
+block-fields-at-requires : (t : ℕ) → block-lts.Need-fields-at-requires (calls t) (block-at t) block.Post block-Inv-loop block-μ-loop
+block-fields-at-requires t c κs = search needs
+
+block-add-second : (t : ℕ) → block-lts.Need-add-second (calls t) (block-at t) block.Post block-Inv-loop block-μ-loop
+block-add-second t c = search needs
+
+block-first-arm-requires : (t : ℕ) → block-lts.Need-first-arm-requires (calls t) (block-at t) block.Post block-Inv-loop block-μ-loop
+block-first-arm-requires t c κs = search needs
+
+block-add-second-2 : (t : ℕ) → block-lts.Need-add-second-2 (calls t) (block-at t) block.Post block-Inv-loop block-μ-loop
+block-add-second-2 t c = search needs
+
+block-second-arm-requires : (t : ℕ) → block-lts.Need-second-arm-requires (calls t) (block-at t) block.Post block-Inv-loop block-μ-loop
+block-second-arm-requires t c κs = search needs
+
+block-add-next : (t : ℕ) → block-lts.Need-add-next (calls t) (block-at t) block.Post block-Inv-loop block-μ-loop
+block-add-next t c = search needs
+
+block-cast-record-line : (t : ℕ) → block-lts.Need-cast-record-line (calls t) (block-at t) block.Post block-Inv-loop block-μ-loop
+block-cast-record-line t c = search needs
+
+block-record-line-requires : (t : ℕ) → block-lts.Need-record-line-requires (calls t) (block-at t) block.Post block-Inv-loop block-μ-loop
+block-record-line-requires t c κs = search needs
+
+block-add-empty-line : (t : ℕ) → block-lts.Need-add-empty-line (calls t) (block-at t) block.Post block-Inv-loop block-μ-loop
+block-add-empty-line t c = search needs
+
+block-empty-line-requires : (t : ℕ) → block-lts.Need-empty-line-requires (calls t) (block-at t) block.Post block-Inv-loop block-μ-loop
+block-empty-line-requires t c κs = search needs
+
+block-add-block : (t : ℕ) → block-lts.Need-add-block (calls t) (block-at t) block.Post block-Inv-loop block-μ-loop
+block-add-block t c = search needs
+
+block-add-block-2 : (t : ℕ) → block-lts.Need-add-block-2 (calls t) (block-at t) block.Post block-Inv-loop block-μ-loop
+block-add-block-2 t c = search needs
+
+block-block-requires : (t : ℕ) → block-lts.Need-block-requires (calls t) (block-at t) block.Post block-Inv-loop block-μ-loop
+block-block-requires t c κs = let n = known t (c .before .before .before .before .before) in let w = c .before .before .before .before .before .before .before .before .before .before .before .pre in (omega (arith, w .0), (search needs, omega (arith, w .1), omega arith, omega (arith, w .1), n .one))
+
+block-sub-else-line : (t : ℕ) → block-lts.Need-sub-else-line (calls t) (block-at t) block.Post block-Inv-loop block-μ-loop
+block-sub-else-line t c = search needs
+
+block-else-line-requires : (t : ℕ) → block-lts.Need-else-line-requires (calls t) (block-at t) block.Post block-Inv-loop block-μ-loop
+block-else-line-requires t c κs = search needs
+
+block-add-block-3 : (t : ℕ) → block-lts.Need-add-block-3 (calls t) (block-at t) block.Post block-Inv-loop block-μ-loop
+block-add-block-3 t c = search needs
+
+block-block-requires-2 : (t : ℕ) → block-lts.Need-block-requires-2 (calls t) (block-at t) block.Post block-Inv-loop block-μ-loop
+block-block-requires-2 t c κs = let n = known t (c .before .before .before .before .before .before .before .before .before) in let w = c .before .before .before .before .before .before .before .before .before .before .before .before .before .before .before .pre in (omega (arith, w .0), (search needs, omega (arith, w .1), omega arith, omega (arith, w .1), n .two))
+
+block-loop-less : (t : ℕ) → block-lts.Need-loop-less (calls t) (block-at t) block.Post block-Inv-loop block-μ-loop
+block-loop-less t c = search needs
+
+block-loop-again : (t : ℕ) → block-lts.Need-loop-again (calls t) (block-at t) block.Post block-Inv-loop block-μ-loop
+block-loop-again t c = let n = known t (c .before .before .before .before .before .before .before .before .before .before) in (search needs, omega arith, n .inside, n .rest)
+
+block-returns : (t : ℕ) → block-lts.Need-returns (calls t) (block-at t) block.Post block-Inv-loop block-μ-loop
+block-returns t c = search needs
+
+pub +block-spec : {M : Type 1} → statement M
++block-spec = close μ-block λ t. block-lts.spec (calls t)
+    (block-at t)
+    block.Post
+    block-Inv-loop
+    block-μ-loop
+    (block-loop-holds t)
+    (block-fields-at-requires t)
+    (block-add-second t)
+    (block-first-arm-requires t)
+    (block-add-second-2 t)
+    (block-second-arm-requires t)
+    (block-add-next t)
+    (block-cast-record-line t)
+    (block-record-line-requires t)
+    (block-add-empty-line t)
+    (block-empty-line-requires t)
+    (block-add-block t)
+    (block-add-block-2 t)
+    (block-block-requires t)
+    (block-sub-else-line t)
+    (block-else-line-requires t)
+    (block-add-block-3 t)
+    (block-block-requires-2 t)
+    (block-loop-less t)
+    (block-loop-again t)
+    (block-returns t)

@@ -1,0 +1,114 @@
+// The listing of a plan that opens: a line on the whole, a line for each array, and each body with its records.
+ghost use mathlib.Core.Path.{_≡_};
+ghost use Prim.Native.Nat.{_≤_};
+ghost use Rattle.model.specs.declared.Verdict.the-variants.{Accepted};
+ghost use Rattle.format.specs.Opening.{opening};
+ghost use Rattle.format.specs.Opened.{found};
+use crate::block::block;
+use crate::page::Page;
+use crate::page::count;
+use crate::page::numbered;
+use crate::page::range;
+use crate::page::text;
+use format::Opened;
+
+// The line on the whole.
+fn heading(page: &mut Page, o: Opened) -> usize
+    ensures { λ r. ⌜ r ≤ 4096 ⌝ }
+{
+    let at = plan_kind(page, o.kind);
+    let at = count(page, at, o.arrays as u16, b" array, ", b" arrays, ");
+    let at = count(page, at, o.cells, b" cell, ", b" cells, ");
+    let at = count(page, at, o.bodies as u16, b" body, ", b" bodies, ");
+    count(page, at, o.records, b" record\n", b" records\n")
+}
+
+// Its beginning.
+fn plan_kind(page: &mut Page, kind: u8) -> usize
+    ensures { λ r. ⌜ r ≤ 4096 ⌝ }
+{
+    if kind == 1 {
+        return text(page, 0, b"declared plan, ");
+    }
+    text(page, 0, b"plain plan, ")
+}
+
+// The end of the line of an array or a body: the numbers of its cells or records, where it has any.
+fn numbers(page: &mut Page, at: usize, first: u16, end: u16) -> usize
+    requires { ⌜ at ≤ 4096 ⌝ }
+    ensures { λ r. ⌜ r ≤ 4096 ⌝ }
+{
+    if first == end {
+        return text(page, at, b"\n");
+    }
+    let at = text(page, at, b", ");
+    let at = range(page, at, first, end);
+    text(page, at, b"\n")
+}
+
+// The line of array a, which has the cells from `first` up to `end`.
+fn array_line(page: &mut Page, at: usize, a: u16, first: u16, end: u16) -> usize
+    requires { ⌜ (at ≤ 4096) × (first ≤ end) ⌝ }
+    ensures { λ r. ⌜ r ≤ 4096 ⌝ }
+{
+    let at = numbered(page, at, b"array ", a);
+    let at = text(page, at, b": ");
+    let at = count(page, at, end - first, b" cell", b" cells");
+    numbers(page, at, first, end)
+}
+
+// The line of body b, which has the records from `first` up to `end`.
+fn body_line(page: &mut Page, at: usize, b: u16, first: u16, end: u16) -> usize
+    requires { ⌜ (at ≤ 4096) × (first ≤ end) ⌝ }
+    ensures { λ r. ⌜ r ≤ 4096 ⌝ }
+{
+    let at = numbered(page, at, b"body ", b);
+    let at = text(page, at, b": ");
+    let at = count(page, at, end - first, b" record", b" records");
+    numbers(page, at, first, end)
+}
+
+// A line for each array.
+fn arrays(page: &mut Page, at: usize, plan: &[u8], o: Opened) -> usize
+    requires { ⌜ (at ≤ 4096) × (Accepted ≡ opening (now plan)) × (o ≡ found (now plan)) ⌝ }
+    ensures { λ r. ⌜ r ≤ 4096 ⌝ }
+{
+    let arrays = o.arrays as usize;
+    let starts = o.array_starts;
+    let mut waiting = at;
+    let mut a: usize = 0;
+    while a < arrays {
+        waiting = array_line(page, waiting, a as u16, starts[a], starts[a + 1]);
+        a += 1;
+    }
+    waiting
+}
+
+// Each body: its line, and the lines of its records.
+fn bodies(page: &mut Page, at: usize, plan: &[u8], o: Opened) -> usize
+    requires { ⌜ (at ≤ 4096) × (Accepted ≡ opening (now plan)) × (o ≡ found (now plan)) ⌝ }
+    ensures { λ r. ⌜ r ≤ 4096 ⌝ }
+{
+    let bodies = o.bodies as usize;
+    let starts = o.body_starts;
+    let mut waiting = at;
+    let mut b: usize = 0;
+    while b < bodies {
+        let first = starts[b];
+        let end = starts[b + 1];
+        waiting = body_line(page, waiting, b as u16, first, end);
+        waiting = block(page, waiting, plan, 1, first as usize, end as usize);
+        b += 1;
+    }
+    waiting
+}
+
+// The listing of a plan in which opening found o.
+pub fn listed(page: &mut Page, plan: &[u8], o: Opened) -> usize
+    requires { ⌜ (Accepted ≡ opening (now plan)) × (o ≡ found (now plan)) ⌝ }
+    ensures { λ r. ⌜ r ≤ 4096 ⌝ }
+{
+    let at = heading(page, o);
+    let at = arrays(page, at, plan, o);
+    bodies(page, at, plan, o)
+}

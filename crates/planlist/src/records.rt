@@ -1,0 +1,106 @@
+// The lines of one record.
+ghost use Prim.Native.Nat.{_≤_};
+use crate::page::Page;
+use crate::page::indent;
+use crate::page::number;
+use crate::page::numbered;
+use crate::page::range;
+use crate::page::text;
+use format::Fields;
+
+// The name of a kind; a plan that opens has none of the last row.
+fn kind_name(page: &mut Page, at: usize, kind: u8) -> usize
+    requires { ⌜ at ≤ 4096 ⌝ }
+    ensures { λ r. ⌜ r ≤ 4096 ⌝ }
+{
+    match kind {
+        1 => text(page, at, b" read"),
+        2 => text(page, at, b" write"),
+        3 => text(page, at, b" copy to"),
+        4 => text(page, at, b" need"),
+        5 => text(page, at, b" mark"),
+        6 => text(page, at, b" branch"),
+        7 => text(page, at, b" loop"),
+        8 => text(page, at, b" call"),
+        16 => text(page, at, b" R"),
+        17 => text(page, at, b" W"),
+        18 => text(page, at, b" RW"),
+        0 | 9..=15 | 19..=255 => at,
+    }
+}
+
+// Side and array.
+fn on_array(page: &mut Page, at: usize, side: u8, array: u8) -> usize
+    requires { ⌜ at ≤ 4096 ⌝ }
+    ensures { λ r. ⌜ r ≤ 4096 ⌝ }
+{
+    if side == 0 {
+        return numbered(page, at, b" host array ", array as u16);
+    }
+    numbered(page, at, b" card array ", array as u16)
+}
+
+// Cells p to q - 1 of the array.
+fn cells(page: &mut Page, at: usize, p: u16, q: u16) -> usize
+    requires { ⌜ at ≤ 4096 ⌝ }
+    ensures { λ r. ⌜ r ≤ 4096 ⌝ }
+{
+    if (p as u32) + 1 == (q as u32) {
+        return numbered(page, at, b" cell ", p);
+    }
+    let at = text(page, at, b" cells ");
+    range(page, at, p, q)
+}
+
+// What stands behind the kind.
+fn fields(page: &mut Page, at: usize, x: Fields) -> usize
+    requires { ⌜ at ≤ 4096 ⌝ }
+    ensures { λ r. ⌜ r ≤ 4096 ⌝ }
+{
+    let kind = x.kind;
+    match kind {
+        1 | 2 | 3 => {
+            let at = on_array(page, at, x.side, x.array);
+            cells(page, at, x.p, x.q)
+        }
+        4 | 5 | 16 | 17 | 18 => on_array(page, at, x.side, x.array),
+        8 => numbered(page, at, b" body ", x.p),
+        0 | 6 | 7 | 9..=15 | 19..=255 => at,
+    }
+}
+
+// The line of record r.
+pub fn record_line(page: &mut Page, at: usize, level: usize, r: u16, x: Fields) -> usize
+    requires { ⌜ at ≤ 4096 ⌝ }
+    ensures { λ r. ⌜ r ≤ 4096 ⌝ }
+{
+    let at = indent(page, at, level);
+    let at = number(page, at, r);
+    let at = kind_name(page, at, x.kind);
+    let at = fields(page, at, x);
+    text(page, at, b"\n")
+}
+
+// The line that stands for the first arm of a branch or the arm of a loop, where it is empty.
+pub fn empty_line(page: &mut Page, at: usize, level: usize, x: Fields) -> usize
+    requires { ⌜ at ≤ 4096 ⌝ }
+    ensures { λ r. ⌜ r ≤ 4096 ⌝ }
+{
+    if (6 <= x.kind) & (x.kind <= 7) & (x.p == 0) {
+        let at = indent(page, at, level);
+        return text(page, at, b"nothing\n");
+    }
+    at
+}
+
+// The line before a second arm that has records.
+pub fn else_line(page: &mut Page, at: usize, level: usize, records: usize) -> usize
+    requires { ⌜ at ≤ 4096 ⌝ }
+    ensures { λ r. ⌜ r ≤ 4096 ⌝ }
+{
+    if 0 < records {
+        let at = indent(page, at, level);
+        return text(page, at, b"else\n");
+    }
+    at
+}

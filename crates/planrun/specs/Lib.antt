@@ -1,0 +1,2 @@
+-- What the program reports.
+pub mod Reports

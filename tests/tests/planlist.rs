@@ -1,0 +1,316 @@
+//! The program `planlist` against a lister written again here, over the plan
+//! that the walker opens. `CUPLIHANG_PLANLIST` names the program, else it is
+//! the one that the gate has built.
+
+use cuplihang_tests::generate::*;
+use cuplihang_tests::walker::plan::*;
+use cuplihang_tests::walker::{open, Refusal};
+use std::collections::BTreeMap;
+use std::fmt::Write as _;
+use std::io::Write;
+use std::ops::Range;
+use std::process::{Command, Stdio};
+
+fn program_listing(file: &[u8]) -> String {
+    let built = concat!(env!("CARGO_MANIFEST_DIR"), "/../target/bin/planlist");
+    let program = std::env::var_os("CUPLIHANG_PLANLIST").unwrap_or(built.into());
+    let piped = |command: &mut Command| command.stdin(Stdio::piped()).stdout(Stdio::piped()).spawn();
+    let mut child = piped(&mut Command::new(program)).expect("the program starts");
+    child.stdin.take().unwrap().write_all(file).expect("the program reads its input to the end");
+    let output = child.wait_with_output().expect("the program ends");
+    String::from_utf8(output.stdout).expect("a listing in ASCII")
+}
+
+fn counted(n: usize, one: &str, several: &str) -> String {
+    format!("{n} {}", if n == 1 { one } else { several })
+}
+
+/// The first and the last of some numbers, with `before` in front; nothing of none.
+fn numbers(before: &str, range: Range<usize>) -> String {
+    match range.len() {
+        0 => String::new(),
+        1 => format!("{before}{}", range.start),
+        _ => format!("{before}{} to {}", range.start, range.end - 1),
+    }
+}
+
+fn words(record: &Record) -> String {
+    let on = format!("{} array {}", ["host", "card"][record.side], record.array);
+    let cells = || match record.q - record.p {
+        1 => format!("cell {}", record.p),
+        _ => numbers("cells ", record.p..record.q),
+    };
+    match record.kind {
+        READ => format!("read {on} {}", cells()),
+        WRITE => format!("write {on} {}", cells()),
+        COPY => format!("copy to {on} {}", cells()),
+        NEED => format!("need {on}"),
+        MARK => format!("mark {on}"),
+        BRANCH => "branch".into(),
+        LOOP => "loop".into(),
+        CALL => format!("call body {}", record.p),
+        R => format!("R {on}"),
+        W => format!("W {on}"),
+        RW => format!("RW {on}"),
+        kind => panic!("kind {kind} in a plan that opens"),
+    }
+}
+
+/// The lines of the records of a body or of an arm.
+fn block(plan: &Plan, part: Range<usize>, level: usize) -> Vec<String> {
+    let line = |level: usize, text: &str| format!("{}{text}", "  ".repeat(level));
+    let mut lines = Vec::new();
+    let mut r = part.start;
+    while r < part.end {
+        let record = &plan.records[r];
+        lines.push(line(level, &format!("{r} {}", words(record))));
+        let (first, second) = plan.arms(r);
+        r = second.end;
+        if matches!(record.kind, BRANCH | LOOP) && first.is_empty() {
+            lines.push(line(level + 1, "nothing"));
+        }
+        lines.extend(block(plan, first, level + 1));
+        if !second.is_empty() {
+            lines.push(line(level, "else"));
+            lines.extend(block(plan, second, level + 1));
+        }
+    }
+    lines
+}
+
+fn of_plan(plan: &Plan) -> String {
+    let kind = ["declared", "plain"][plan.kind.number() as usize - 1];
+    let arrays = counted(plan.arrays(), "array", "arrays");
+    let cells = counted(plan.cells(), "cell", "cells");
+    let bodies = counted(plan.bodies.len(), "body", "bodies");
+    let records = counted(plan.records.len(), "record", "records");
+    let mut text = format!("{kind} plan, {arrays}, {cells}, {bodies}, {records}\n");
+    for array in 0..plan.arrays() {
+        let cells = plan.cells_of(array);
+        let count = counted(cells.len(), "cell", "cells");
+        writeln!(text, "array {array}: {count}{}", numbers(", ", cells)).unwrap();
+    }
+    for (number, body) in plan.bodies.iter().enumerate() {
+        let count = counted(body.count, "record", "records");
+        writeln!(text, "body {number}: {count}{}", numbers(", ", body.first..body.end())).unwrap();
+        for line in block(plan, body.first..body.end(), 1) {
+            writeln!(text, "{line}").unwrap();
+        }
+    }
+    text
+}
+
+/// The table's words for 1 to 10, and what the place counts.
+const NUMBERS: [(&str, &str); 10] = [
+    ("under 4 bytes", ""),
+    ("a header byte against its rule", ""),
+    ("file ends inside the contents", ""),
+    ("array length or their total against its rule", "array"),
+    (
+        "body entry: fourth byte not zero, more declarations than records, \
+         declarations in body 0 or total too large",
+        "body",
+    ),
+    ("file length not as the contents say", ""),
+    ("check bytes wrong", ""),
+    ("a field against its rule", "record"),
+    ("kind not allowed there", "record"),
+    ("arm past the end of what holds it, or nested too deep", "record"),
+];
+
+fn of_refusal(refusal: Refusal) -> String {
+    let Refusal { number, place } = refusal;
+    match NUMBERS[number as usize - 1] {
+        (words, "") => format!("not a plan: {number} {words}\n"),
+        (words, counts) => format!("not a plan: {number} {words}, {counts} {place}\n"),
+    }
+}
+
+fn listing(file: &[u8]) -> String {
+    open(file).map_or_else(of_refusal, |plan| of_plan(&plan))
+}
+
+/// How often each number occurred, 0 for a plan that opens.
+type Counts = BTreeMap<u16, usize>;
+
+fn match_listing(file: &[u8], counts: &mut Counts) {
+    assert_eq!(program_listing(file), listing(file), "{:02X?}", &file[..file.len().min(400)]);
+    *counts.entry(open(file).map_or_else(|refusal| refusal.number, |_| 0)).or_default() += 1;
+}
+
+/// The twelve cases, as they are printed.
+const CASES: [&str; 12] = [
+    "\
+plain plan, 1 array, 1 cell, 1 body, 0 records
+array 0: 1 cell, 0
+body 0: 0 records
+",
+    "\
+plain plan, 1 array, 1 cell, 1 body, 1 record
+array 0: 1 cell, 0
+body 0: 1 record, 0
+  0 read host array 0 cell 0
+",
+    "\
+plain plan, 1 array, 1 cell, 1 body, 1 record
+array 0: 1 cell, 0
+body 0: 1 record, 0
+  0 read card array 0 cell 0
+",
+    "\
+plain plan, 1 array, 1 cell, 1 body, 2 records
+array 0: 1 cell, 0
+body 0: 2 records, 0 to 1
+  0 copy to card array 0 cell 0
+  1 read card array 0 cell 0
+",
+    "\
+plain plan, 1 array, 1 cell, 1 body, 2 records
+array 0: 1 cell, 0
+body 0: 2 records, 0 to 1
+  0 write card array 0 cell 0
+  1 read host array 0 cell 0
+",
+    "\
+plain plan, 1 array, 1 cell, 1 body, 1 record
+array 0: 1 cell, 0
+body 0: 1 record, 0
+  0 copy to host array 0 cell 0
+",
+    "\
+plain plan, 1 array, 1 cell, 1 body, 3 records
+array 0: 1 cell, 0
+body 0: 3 records, 0 to 2
+  0 branch
+    1 copy to card array 0 cell 0
+  2 read card array 0 cell 0
+",
+    "\
+plain plan, 1 array, 1 cell, 1 body, 3 records
+array 0: 1 cell, 0
+body 0: 3 records, 0 to 2
+  0 loop
+    1 read host array 0 cell 0
+    2 write card array 0 cell 0
+",
+    "\
+plain plan, 1 array, 2 cells, 1 body, 2 records
+array 0: 2 cells, 0 to 1
+body 0: 2 records, 0 to 1
+  0 write card array 0 cell 0
+  1 read host array 0 cells 0 to 1
+",
+    "\
+plain plan, 1 array, 1 cell, 1 body, 4 records
+array 0: 1 cell, 0
+body 0: 4 records, 0 to 3
+  0 loop
+    1 read host array 0 cell 0
+    2 read card array 0 cell 0
+    3 write card array 0 cell 0
+",
+    "\
+plain plan, 1 array, 1 cell, 1 body, 4 records
+array 0: 1 cell, 0
+body 0: 4 records, 0 to 3
+  0 need card array 0
+  1 write host array 0 cell 0
+  2 need card array 0
+  3 read card array 0 cell 0
+",
+    "\
+plain plan, 1 array, 1 cell, 1 body, 2 records
+array 0: 1 cell, 0
+body 0: 2 records, 0 to 1
+  0 mark card array 0
+  1 need host array 0
+",
+];
+
+#[test]
+fn the_twelve_cases() {
+    for ((draft, _), expected) in twelve_cases().iter().zip(CASES) {
+        assert_eq!(program_listing(&encode(draft)), expected);
+    }
+}
+
+/// The lister prints the crate's example as the crate has it.
+#[test]
+fn the_example() {
+    let file = include_bytes!("../../crates/planlist/stdin");
+    assert_eq!(listing(file), include_str!("../../crates/planlist/stdout"));
+    match_listing(file, &mut Counts::new());
+}
+
+/// Arms of every shape: a branch with one, the other or no arm, loops with and
+/// without records, arms that end together.
+#[test]
+fn arms() {
+    let act = || read(1, 0, 0, 1);
+    let branch = |one: &[Step], two: &[Step]| Step::Branch(one.to_vec(), two.to_vec());
+    let turning = |arm: &[Step]| Step::Loop(arm.to_vec());
+    let shapes = [branch(&[], &[]), branch(&[act()], &[]), branch(&[], &[act()]), turning(&[])];
+    let mut counts = Counts::new();
+    for one in &shapes {
+        for two in &shapes {
+            let (one, two) = (one.clone(), two.clone());
+            let inside = [turning(&[branch(&[one.clone(), act()], &[two.clone()])])];
+            let steps = [one, branch(&inside, &[two.clone()]), branch(&[two], &inside), act()];
+            match_listing(&encode(&Draft::plain(&[1], &steps)), &mut counts);
+        }
+    }
+    assert_eq!(counts, Counts::from([(0, 16)]));
+}
+
+/// Plans at the limits: listings of many times the bytes that are printed at once.
+#[test]
+fn large_plans() {
+    let mut counts = Counts::new();
+    for draft in [all_told_apart(), whole_arrays(128), deep_loops(16, 1024), copying(1023, 4096)] {
+        match_listing(&encode(&draft), &mut counts);
+    }
+    assert_eq!(counts, Counts::from([(0, 4)]));
+}
+
+#[test]
+fn seeded_plans() {
+    let mut rng = Rng::new(120);
+    let mut counts = Counts::new();
+    for _ in 0..400 {
+        match_listing(&encode(&valid(&mut rng)), &mut counts);
+    }
+    assert_eq!(counts, Counts::from([(0, 400)]));
+}
+
+/// Damaged files: the number, its words and its place.
+#[test]
+fn seeded_files() {
+    let mut rng = Rng::new(121);
+    let mut counts = Counts::new();
+    for number in (1..=10).cycle().take(400) {
+        match_listing(&breach(&mut rng, number), &mut counts);
+    }
+    for _ in 0..400 {
+        match_listing(&any_file(&mut rng), &mut counts);
+    }
+    println!("{counts:?}");
+    for number in 0..=10 {
+        assert!(counts.get(&number).is_some_and(|&n| n >= 10), "number {number} is too rare");
+    }
+}
+
+/// A file on standard input, whatever its length.
+#[test]
+fn inputs_of_any_length() {
+    let mut counts = Counts::new();
+    match_listing(&[], &mut counts);
+    for length in [1, 3, 4, 10, 4096, 8388, 8389, 8400, 8401, 65_536, 20_000_000] {
+        let mut file = vec![0; length];
+        match_listing(&file, &mut counts);
+        for (byte, good) in file.iter_mut().zip([2, 1, 1, 0, 1, 0, 0, 0, 0, 0]) {
+            *byte = good;
+        }
+        match_listing(&file, &mut counts);
+    }
+    assert!([1, 2, 6].iter().all(|number| counts.contains_key(number)));
+}
