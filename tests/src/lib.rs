@@ -6,5 +6,6 @@
 
 #[cfg(feature = "archive")]
 pub mod archive;
+pub mod examples;
 pub mod generate;
 pub mod walker;

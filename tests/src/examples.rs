@@ -1,0 +1,90 @@
+//! The files of `examples/`.
+
+use crate::generate::*;
+use crate::walker::expand::expand;
+
+const HOST: u8 = 0;
+const CARD: u8 = 1;
+const R: u8 = 16;
+const W: u8 = 17;
+const RW: u8 = 18;
+
+/// The grids of the small router: obstacles, costs, tracks.
+const OBSTACLES: u8 = 0;
+const COSTS: u8 = 1;
+const TRACKS: u8 = 2;
+const GRIDS: [u16; 3] = [8, 8, 4];
+
+/// A declared plan of a small router: the host loads the obstacles, the card
+/// computes costs and spreads them wave by wave; after each wave either the
+/// host traces tracks or it rips some up.
+pub fn router() -> Draft {
+    let load = Pass {
+        declarations: vec![declare(W, HOST, OBSTACLES)],
+        steps: vec![write(HOST, OBSTACLES, 0, 8)],
+    };
+    let price = Pass {
+        declarations: vec![declare(R, CARD, OBSTACLES), declare(W, CARD, COSTS)],
+        steps: vec![read(CARD, OBSTACLES, 0, 8), write(CARD, COSTS, 0, 8)],
+    };
+    let wave = Pass {
+        declarations: vec![declare(RW, CARD, COSTS), declare(R, CARD, OBSTACLES)],
+        steps: vec![
+            read(CARD, OBSTACLES, 0, 8),
+            Step::Loop(vec![read(CARD, COSTS, 0, 8), write(CARD, COSTS, 2, 6)]),
+        ],
+    };
+    let trace = Pass {
+        declarations: vec![declare(R, HOST, COSTS), declare(RW, HOST, TRACKS)],
+        steps: vec![read(HOST, COSTS, 0, 8), read(HOST, TRACKS, 0, 4), write(HOST, TRACKS, 0, 2)],
+    };
+    let rip_up = Pass {
+        declarations: vec![declare(RW, HOST, TRACKS), declare(RW, HOST, OBSTACLES)],
+        steps: vec![
+            read(HOST, TRACKS, 0, 4),
+            Step::Branch(vec![write(HOST, TRACKS, 0, 4), write(HOST, OBSTACLES, 3, 4)], vec![]),
+        ],
+    };
+    let script = [
+        call(1),
+        call(2),
+        Step::Loop(vec![call(3), Step::Branch(vec![call(4)], vec![call(5)])]),
+        call(4),
+    ];
+    declared_draft(&GRIDS, &script, &[load, price, wave, trace, rip_up])
+}
+
+/// Two turns of the router's loop: a wave of one turn and a trace, a wave of
+/// none and a ripping up.
+pub const ROUTER_CHOICES: [u8; 9] = [1, 1, 0, 1, 1, 0, 0, 1, 0];
+
+/// A plan that stops, though no run with each loop turned twice and each branch
+/// kept to one arm does.
+pub fn old_way() -> Vec<Step> {
+    let (rip_up, look) = (write(HOST, 0, 0, 1), read(CARD, 0, 0, 1));
+    vec![copy(CARD, 0, 0, 1), Step::Loop(vec![Step::Branch(vec![rip_up], vec![look])])]
+}
+
+/// Choices on which `old_way` stops: a turn that writes on the host, then one
+/// that reads on the card.
+pub const OLD_WAY_CHOICES: [u8; 4] = [1, 1, 1, 0];
+
+/// Each file of `examples/` by its name.
+pub fn examples() -> Vec<(String, Vec<u8>)> {
+    let router = encode(&router());
+    let mut expanded = vec![0; 8266];
+    expand(&router, &mut expanded);
+    let records = u16::from_le_bytes([expanded[10], expanded[11]]) as usize;
+    expanded.truncate(4 + 2 * GRIDS.len() + 4 + 8 * records + 2);
+    let mut files: Vec<(String, Vec<u8>)> = (1..)
+        .zip(twelve_cases())
+        .map(|(number, (draft, _))| (format!("case-{number:02}.plan"), encode(&draft)))
+        .collect();
+    files.push(("router.plan".into(), router));
+    files.push(("router-expanded.plan".into(), expanded));
+    files.push(("router.choices".into(), ROUTER_CHOICES.into()));
+    files.push(("router-short.choices".into(), ROUTER_CHOICES[..3].into()));
+    files.push(("old-way.plan".into(), encode(&Draft::plain(&[1], &old_way()))));
+    files.push(("old-way.choices".into(), OLD_WAY_CHOICES.into()));
+    files
+}
