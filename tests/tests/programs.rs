@@ -2,6 +2,7 @@
 //! `CUPLIHANG_PLANEXPAND` and `CUPLIHANG_PLANRUN` name the programs, else they
 //! are those that the gate has built.
 
+use cuplihang_tests::examples::ROUTER_CHOICES;
 use cuplihang_tests::generate::*;
 use cuplihang_tests::walker::expand::expansion;
 use cuplihang_tests::walker::plan::{MAX_CELLS, MAX_CHOICES};
@@ -131,7 +132,7 @@ fn the_examples() {
     assert_eq!(written, example("planrun/data/plan"));
     let lines = Files::new("the_examples").run(&written, &example("planrun/data/choices"));
     assert_eq!(lines.as_bytes(), example("planrun/stdout"));
-    assert_eq!(lines, report(&written, &[1, 1, 0]).0);
+    assert_eq!(lines, report(&written, &ROUTER_CHOICES).0);
 }
 
 #[test]
