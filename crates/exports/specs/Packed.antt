@@ -53,6 +53,7 @@ figures-by e before Accepted = e .used ∷ e .«host_flags» ∷ e .«card_flags
 figures-by e before (Stopped r c) = before
 figures-by e before (Refused number place) = before
 
+-- the same by the answer itself
 unfoldable pub figures-of : End → List ℕ → List ℕ
 figures-of e before = figures-by e before (e .verdict)
 

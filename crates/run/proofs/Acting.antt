@@ -17,7 +17,7 @@ use Rattle.run.specs.declared.acts.Stored.{Stored}
 use Rattle.run.specs.declared.acts.Acted.{Acted}
 use Rattle.run.specs.declared.acts.Acted.the-variants.{Done, Unmet}
 use Rattle.run.specs.Running.{number-of, mask}
-use Rattle.run.specs.Inner.Acting.{among, FirstStale, Changed, Same, Low, CellsAt, ArrayAt, Holds, BothSet, FollowsAs, MovesCells}
+use Rattle.run.specs.Inner.Acting.{among, FirstStale, Changed, Same, Low, CellsAt, ArrayAt, Holds, BothSet, BothSetAs, FollowsAs, MovesCells}
 use Rattle.run.proofs.Cells.{changed-same, same-all}
 use Rattle.run.proofs.Masks.{mask-same}
 use Rattle.run.proofs.Stale.{range-ends, range-cells, array-cells-end, array-cells, Sees, all-fine, stale-at}
@@ -153,7 +153,7 @@ module _ {arrays : Arrays} {t : Side} {s : Stored} {own others latest : List ℕ
 
     -- a need that copies
     module _ (low : Low s) (e : σ .flag t a ≡ false) where
-      pub need-done : {s′ s″ : Stored} {own′ : List ℕ} → MovesCells from to s own others latest (Done s′) own′ → BothSet s′ a s″ →
+      need-done : {s′ s″ : Stored} {own′ : List ℕ} → MovesCells from to s own others latest (Done s′) own′ → BothSet s′ a s″ →
           FollowsAs arrays (need t a) t σ l own others latest (Done s″) own′ latest
       need-done {own′ = own′} (f, m, q) b = (
         all-fine arrays (other t) others latest σ (sees-others low) (λ c. eqb (array-of arrays c) a) from to (array-cells k) (need t a) (λ c. rw e) to f (omega arith),
@@ -175,9 +175,15 @@ module _ {arrays : Arrays} {t : Side} {s : Stored} {own others latest : List ℕ
             }),
       )
 
-      pub need-unmet : {r : ℕ} → FirstStale others latest from to r → r < to → lowest-unmet arrays (need t a) σ ≡ some r
+      need-unmet : {r : ℕ} → FirstStale others latest from to r → r < to → lowest-unmet arrays (need t a) σ ≡ some r
       need-unmet {r} f m =
           stale-at arrays (other t) others latest σ (sees-others low) (λ c. eqb (array-of arrays c) a) from to (array-cells k) (need t a) (λ c. rw e) r f m (array-cells-end k)
+
+      pub need-follows : (r q : Acted) (own′ : List ℕ) → MovesCells from to s own others latest r own′ → BothSetAs r a q → FollowsAs arrays (need t a) t σ l own others latest q own′ latest
+      need-follows (Done s′) (Done s″) own′ m b = need-done m b
+      need-follows (Done s′) (Unmet c) own′ m b = absurd b
+      need-follows (Unmet c) (Done s″) own′ m b = absurd b
+      need-follows (Unmet c) (Unmet c′) own′ m b = rw b (need-unmet (m .0) (m .1), m .2, refl)
 
   pub mark-done : (a : ℕ) (s′ : Stored) →
       s′ .flags ≡ mask (length arrays) (λ b. cond (eqb b a) true (σ .flag t b)) →

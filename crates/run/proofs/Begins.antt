@@ -23,12 +23,12 @@ use Rattle.format.specs.Opened.{found}
 use Rattle.format.specs.Plans.{plan-of}
 use Rattle.format.specs.Inner.Walks.{Plain, Starts, block-between}
 use Rattle.format.proofs.Laws.Rows.{holds, skips, skipped, empty, stop, pass, passed}
-use Rattle.format.proofs.Laws.Tables.{arrays-counted, length-table}
+use Rattle.format.proofs.Laws.Tables.{arrays-counted}
 use Rattle.format.proofs.Walking.{verdict-is, found-is, array-start, Facts, opened-facts}
 use Rattle.format.proofs.Trees.{plain-good, plain-body}
 use Rattle.run.specs.Running.{Lent, choices-of, run-rows}
 use Rattle.run.specs.Inner.Acting.{Changed}
-use Rattle.run.specs.Inner.Standing.{started, first-machine, rest-of, left-of, weight-of, weight, Parts, Reaches, Ready}
+use Rattle.run.specs.Inner.Standing.{spot, runner, started, first-machine, rest-of, left-of, weight-of, weight, Parts, Reaches, Ready}
 use Rattle.run.proofs.Masks.{none}
 
 -- the rows, one after the other
@@ -89,9 +89,9 @@ module _ (f choices : List ℕ) (b : Lent) where
 
 -- the start
 module _ (f choices : List ℕ) (facts : Facts f) (kind : kind-of f ≡ 2) where
-  start-left : plan-of f .body ≡ left-of f (started (record-count f))
+  start-left : (ends backs : List ℕ) → plan-of f .body ≡ left-of f (spot (started (record-count f)) ends backs)
   unfolding left-of rest-of
-  start-left = plain-body f facts ∙ sym (then-done (block-between f 0 (record-count f)))
+  start-left ends backs = plain-body f facts ∙ sym (then-done (block-between f 0 (record-count f)))
 
   module _ (n : ℕ) (q : n ≡ cells (arrays-of f)) (h c l own others latest : List ℕ)
       (rh : n ≤ length h) (rc : n ≤ length c) (rl : n ≤ length l)
@@ -99,19 +99,19 @@ module _ (f choices : List ℕ) (facts : Facts f) (kind : kind-of f ≡ 2) where
     filled : (v : ℕ) (a b : List ℕ) → Changed 0 n (λ i. v) a b → (i : ℕ) → i < cells (arrays-of f) → getD b i 0 ≡ v
     filled v a b w i k = w .cell i ∙ rw (le-leb 0 i (omega arith), lt-ltb i n (omega arith))
 
-    pub reaches-start : Reaches f choices (first-machine (record-count f) (array-count f)) own others latest
+    pub reaches-start : (ends backs : List ℕ) → length ends ≡ 16 → length backs ≡ 16 → Reaches f choices (runner (first-machine (record-count f) (array-count f)) ends backs) own others latest
     unfolding weight weight-of Parts plan-of
-    reaches-start = record {
+    reaches-start ends backs e b = record {
       config = begin (plan-of f) (choices-of choices);
       run = here;
       placed = record {
-        all-ends = length-table (λ i. 0) 16;
-        all-backs = length-table (λ i. 0) 16;
+        all-ends = e;
+        all-backs = b;
         here = record { good = plain-good f facts kind; order = omega arith; inside = omega arith };
         behind = tt;
         shallow = omega arith;
       };
-      left = start-left;
+      left = start-left ends backs;
       used = omega arith;
       choices-left = refl;
       holds = record {

@@ -1,16 +1,18 @@
 -- The cells of a memory that a loop has passed: those it has stored, and every other as it was.
 use mathlib.Core.Path.{_≡_, refl, _∙_}
-use mathlib.Core.Bool.{true, false, and-false}
+use mathlib.Core.Bool.{Bool, true, false, and-false}
 use mathlib.Core.List.{List}
-use Prim.Native.Nat.{ℕ, _+_, _≤_, _<_}
+use Prim.Native.Nat.{ℕ, zero, suc, _+_, _≤_, _<_}
 use native.Nat.{ℕᴺ-discrete}
 use native.Mathlib.Decide.{decLt}
 use native.Mathlib.Omega.{arith}
-use lib.Dec.{leb}
+use lib.Dec.{leb, eqb}
 use lib.ListN.{length, getD, set, length-set}
 use lib.Seq.{getD-set-same, getD-set-other}
-use borrow.Author.Tests.{lt-ltb, le-ltb, le-leb, lt-leb}
-use Rattle.run.specs.Inner.Acting.{among, Changed, Same}
+use borrow.Author.Tests.{lt-ltb, le-ltb, le-leb, lt-leb, eq-eqb, eqb-true}
+use Rattle.model.proofs.Booleans.{and-out}
+use Rattle.run.specs.Viewing.{all-current}
+use Rattle.run.specs.Inner.Acting.{among, is-current, block-current, Changed, Same}
 
 -- the cells `from` up to c are none at first, and c is the next
 among-none : (from c : ℕ) → among from from c ≡ false
@@ -42,13 +44,51 @@ module _ (from : ℕ) (new : ℕ → ℕ) (before : List ℕ) where
     ];
   }
 
--- the copies from `from` up to c are current; then that of c is
-pub current-next : (copies latest : List ℕ) (from c : ℕ) → ((k : ℕ) → from ≤ k → k < c → getD copies k 0 ≡ getD latest k 0) → getD copies c 0 ≡ getD latest c 0 →
-    (k : ℕ) → from ≤ k → k < c + 1 → getD copies k 0 ≡ getD latest k 0
-current-next copies latest from c m e k h l = elim (decLt k c) [
-  | yes b ↦ m k h b
-  | no b ↦ let q : k ≡ c = omega arith in rw q e
-]
+-- the copies from `from` up to c are current; then that of c is, or those of the 8 cells from c on are
+module _ (copies latest : List ℕ) (from : ℕ) where
+  abbrev Before : ℕ → Type 0
+  Before c = (k : ℕ) → from ≤ k → k < c → getD copies k 0 ≡ getD latest k 0
+
+  pub current-next : (c : ℕ) → Before c → getD copies c 0 ≡ getD latest c 0 → Before (c + 1)
+  current-next c m e k h l = elim (decLt k c) [
+    | yes b ↦ m k h b
+    | no b ↦ let q : k ≡ c = omega arith in rw q e
+  ]
+
+  pub current-block : (c : ℕ) → Before c → block-current copies latest c ≡ true → Before (c + 8)
+  current-block c m e =
+      let p7 = and-out _ _ e in
+      let p6 = and-out _ _ (p7 .0) in
+      let p5 = and-out _ _ (p6 .0) in
+      let p4 = and-out _ _ (p5 .0) in
+      let p3 = and-out _ _ (p4 .0) in
+      let p2 = and-out _ _ (p3 .0) in
+      let p1 = and-out _ _ (p2 .0) in
+      next 7 (next 6 (next 5 (next 4 (next 3 (next 2 (next 1 (current-next c m (eqb-true _ _ (p1 .0))) (p1 .1)) (p2 .1)) (p3 .1)) (p4 .1)) (p5 .1)) (p6 .1)) (p7 .1)
+    where
+      next : (i : ℕ) → Before (c + i) → is-current copies latest (c + i) ≡ true → Before (c + suc i)
+      next i n t k h l = current-next (c + i) n (eqb-true _ _ t) k h (omega arith)
+
+-- n cells from c on are all current exactly if each of them is
+module _ (copies latest : List ℕ) where
+  pub current-each : (n c : ℕ) → all-current copies latest c n ≡ true → (k : ℕ) → c ≤ k → k < c + n → getD copies k 0 ≡ getD latest k 0
+  unfolding all-current
+  current-each zero c e k h l = absurd (omega arith)
+  current-each (suc n) c e k h l =
+      let p = and-out (eqb (getD copies c 0) (getD latest c 0)) (all-current copies latest (suc c) n) e in
+      elim (ℕᴺ-discrete k c) [ yes q ↦ rw q (eqb-true _ _ (p .0)) | no q ↦ current-each n (suc c) (p .1) k (omega arith) (omega arith) ]
+
+  pub each-current : (n c : ℕ) → ((k : ℕ) → c ≤ k → k < c + n → getD copies k 0 ≡ getD latest k 0) → all-current copies latest c n ≡ true
+  unfolding all-current
+  each-current zero c h = refl
+  each-current (suc n) c h = rw (eq-eqb _ _ (h c (omega arith) (omega arith))) (each-current n (suc c) (λ k i j. h k (omega arith) (omega arith)))
+
+  pub one-stale : (n c k : ℕ) → c ≤ k → k < c + n → (getD copies k 0 ≡ getD latest k 0 → ⊥) → all-current copies latest c n ≡ false
+  one-stale n c k h l e = go (all-current copies latest c n) refl
+    where
+      go : (b : Bool) → all-current copies latest c n ≡ b → b ≡ false
+      go true q = absurd (e (current-each n c q k h l))
+      go false q = refl
 
 -- cells past those that were changed are as they were
 pub changed-same : {from to : ℕ} {new : ℕ → ℕ} {before after : List ℕ} → Changed from to new before after → Same to before after

@@ -18,10 +18,9 @@ use Rattle.format.specs.Plans.{plan-of}
 use Rattle.format.proofs.Laws.Rows.{never-stops}
 use Rattle.format.proofs.Laws.Tables.{length-table, getD-table}
 use Rattle.run.specs.declared.End.{End}
-use Rattle.run.specs.declared.machine.Machine.{Machine}
 use Rattle.run.specs.Running.{Lent, lent, choices-of, run-rows, number-of, memory, holding, no-end, end-of, Ran, RunsAs, Runs}
 use Rattle.run.specs.Inner.Acting.{Same}
-use Rattle.run.specs.Inner.Standing.{end-with, tally-with, Ended, Reaches}
+use Rattle.run.specs.Inner.Standing.{Runner, end-with, tally-with, Ended, Reaches}
 
 -- a memory whose first n cells are as `held` says and whose others are as they were
 module _ (n : ℕ) (held : ℕ → ℕ) (before after : List ℕ) (room : n ≤ length before) (same : Same n before after) (here : (c : ℕ) → c < n → getD after c 0 ≡ held c) where
@@ -42,7 +41,7 @@ module _ (n : ℕ) (held : ℕ → ℕ) (before after : List ℕ) (room : n ≤ 
   memory-is = ext-getD 0 after (table held n ++ drop n before) size (λ c h. entry c)
 
 -- a run that has ended, from memories h, c and l and a tally t
-module _ (f choices : List ℕ) (m : Machine) (own others latest : List ℕ) (w : Reaches f choices m own others latest) (still : m .running ≡ false)
+module _ (f choices : List ℕ) (m : Runner) (own others latest : List ℕ) (w : Reaches f choices m own others latest) (still : m .running ≡ false)
     (h c l : List ℕ) (t : Tally) (sh : Same (cells (arrays-of f)) h own) (sc : Same (cells (arrays-of f)) c others) (sl : Same (cells (arrays-of f)) l latest)
     (answer : End) (q : answer ≡ end-with (length (arrays-of f)) (w .config .state .flag host) (w .config .state .flag card) (m .place .used) (m .verdict)) where
   abbrev k : Config

@@ -10,8 +10,7 @@ use Rattle.model.specs.Blocks.{_then_}
 use Rattle.format.specs.Bytes.{record-count}
 use Rattle.format.specs.Inner.Walks.{block-between}
 use Rattle.format.proofs.Trees.{block-none}
-use Rattle.run.specs.declared.place.Place.{Place}
-use Rattle.run.specs.Inner.Standing.{entered, left-arm, rest-of, left-of, weight-of, weight, Part, Parts, Placed}
+use Rattle.run.specs.Inner.Standing.{Spot, entered, left-arm, rest-of, left-of, weight-of, weight, Part, Parts, Placed}
 
 -- a stack is the same below depth d if its entries are
 module _ (f : List ℕ) (ends backs : List ℕ) (i v w : ℕ) where
@@ -34,7 +33,7 @@ module _ (f : List ℕ) (ends backs : List ℕ) (i v w : ℕ) where
   parts-set (suc d) h p = (rw (other-entry ends d v (omega arith), other-entry backs d w (omega arith)) (p .0), parts-set d (omega arith) (p .1))
 
 -- into an arm
-module _ (f : List ℕ) (p : Place) (a e back : ℕ) (w : Placed f p) (h : p .depth < 16) where
+module _ (f : List ℕ) (p : Spot) (a e back : ℕ) (w : Placed f p) (h : p .depth < 16) where
   end-there : getD (set (p .ends) (p .depth) (p .end)) (p .depth) 0 ≡ p .end
   end-there = getD-set-same (p .ends) (p .depth) (p .end) 0 (omega (arith, w .all-ends))
 
@@ -56,7 +55,7 @@ module _ (f : List ℕ) (p : Place) (a e back : ℕ) (w : Placed f p) (h : p .de
   }
 
 -- out of an arm
-module _ (f : List ℕ) (p : Place) (d : ℕ) (e : p .depth ≡ suc d) (w : Placed f p) (z : p .at ≡ p .end) where
+module _ (f : List ℕ) (p : Spot) (d : ℕ) (e : p .depth ≡ suc d) (w : Placed f p) (z : p .at ≡ p .end) where
   top : p .depth - 1 ≡ d
   top = omega arith
 
@@ -81,6 +80,6 @@ module _ (f : List ℕ) (few : record-count f ≤ 1024) where
   stack-light ends backs zero p = omega arith
   stack-light ends backs (suc d) p = omega (arith, stack-light ends backs d (p .1), p .0 .inside)
 
-  pub light : (p : Place) → Placed f p → weight p < 32768
+  pub light : (p : Spot) → Placed f p → weight p < 32768
   unfolding weight
   light p w = omega (arith, stack-light (p .ends) (p .backs) (p .depth) (w .behind), w .shallow, w .here .inside)

@@ -31,11 +31,9 @@ use Rattle.format.proofs.Acts.{plain-kind}
 use Rattle.run.specs.declared.acts.Stored.{Stored}
 use Rattle.run.specs.declared.acts.Acted.{Acted}
 use Rattle.run.specs.declared.acts.Acted.the-variants.{Done, Unmet}
-use Rattle.run.specs.declared.place.Place.{Place}
-use Rattle.run.specs.declared.machine.Machine.{Machine}
 use Rattle.run.specs.Running.{choices-of}
 use Rattle.run.specs.Inner.Acting.{Room, Rooms, Low, Spans, Holds, Acts}
-use Rattle.run.specs.Inner.Standing.{entered, skipped, left-arm, past-record, chosen, from-of, to-of, ended-with, moved-to, arm-ended, tested, rest-of, left-of, weight, measure, Part, Placed, Ended, Reaches}
+use Rattle.run.specs.Inner.Standing.{Spot, Runner, entered, skipped, left-arm, past-record, chosen, from-of, to-of, ended-with, moved-to, arm-ended, tested, rest-of, left-of, weight, measure, Part, Placed, Ended, Reaches}
 use Rattle.run.proofs.Records.{few-arrays, spans, inside, few-counted, few-moved}
 use Rattle.run.proofs.Places.{left-entered, placed-entered, left-left, weight-left, placed-left, light}
 
@@ -94,14 +92,14 @@ pub record Able (arrays : Arrays) (x : Fields) (from to : ℕ) (s : Stored) (at 
   pub few : at < 1024
 
 -- the laws of a step from where the machine stands
-module _ (f : List ℕ) (choices : List ℕ) (m : Machine) (own others latest : List ℕ) (w : Reaches f choices m own others latest) (run : m .running ≡ true) where
+module _ (f : List ℕ) (choices : List ℕ) (m : Runner) (own others latest : List ℕ) (w : Reaches f choices m own others latest) (run : m .running ≡ true) where
   abbrev arrays : Arrays
   arrays = arrays-of f
 
   abbrev k : Config
   k = w .config
 
-  abbrev p : Place
+  abbrev p : Spot
   p = m .place
 
   -- the run ends here
@@ -147,7 +145,7 @@ module _ (f : List ℕ) (choices : List ℕ) (m : Machine) (own others latest : 
     omega (arith, weight-left f p d q (w .placed) z),
   )
 
-  pub at-arm-end : p .at ≡ p .end → (r : Machine) → r ≡ arm-ended m → Reaches f choices r own others latest × (measure (length choices) r < measure (length choices) m)
+  pub at-arm-end : p .at ≡ p .end → (r : Runner) → r ≡ arm-ended m → Reaches f choices r own others latest × (measure (length choices) r < measure (length choices) m)
   unfolding arm-ended
   at-arm-end z r e = go (p .depth) refl
     where
@@ -160,7 +158,7 @@ module _ (f : List ℕ) (choices : List ℕ) (m : Machine) (own others latest : 
   still j = let a : m .verdict ≡ Accepted = rw run at (w .ended) in rw run a
 
   -- a branch or a test takes a choice
-  took : (q : Place) (b : Block) → record-count f ≤ 1024 → p .used < length choices →
+  took : (q : Spot) (b : Block) → record-count f ≤ 1024 → p .used < length choices →
       step arrays k ≡ Step.next (config b (choices-of (drop (suc (p .used)) choices)) (k .state) (k .history)) →
       left-of f q ≡ b → Placed f q → q .used ≡ p .used + 1 →
       Reaches f choices (moved-to m q (m .stored)) own others latest × (measure (length choices) (moved-to m q (m .stored)) < measure (length choices) m)
@@ -236,7 +234,7 @@ module _ (f : List ℕ) (choices : List ℕ) (m : Machine) (own others latest : 
       rest : Part f (p .depth) then-next (p .end)
       rest = rest-part f bodies plain (p .depth) (p .at) (p .end) part h x e
 
-      abbrev Took : Place → Type 0
+      abbrev Took : Spot → Type 0
       Took q = Reaches f choices (moved-to m q (m .stored)) own others latest × (measure (length choices) (moved-to m q (m .stored)) < measure (length choices) m)
 
       branch-took : x .kind ≡ 6 → Took (chosen p x byte)
@@ -268,7 +266,7 @@ module _ (f : List ℕ) (choices : List ℕ) (m : Machine) (own others latest : 
     spent u = w .choices-left ∙ ap choices-of (ap (λ n. drop n choices) u ∙ drop-length choices)
 
     -- a branch, or a test of a loop
-    pub at-test : 6 ≤ x .kind → (r : Machine) → r ≡ tested m x choices → Reaches f choices r own others latest × (measure (length choices) r < measure (length choices) m)
+    pub at-test : 6 ≤ x .kind → (r : Runner) → r ≡ tested m x choices → Reaches f choices r own others latest × (measure (length choices) r < measure (length choices) m)
     unfolding tested
     at-test y r q = rw q (go (eqb (p .used) (length choices)) refl)
       where

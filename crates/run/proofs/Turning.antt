@@ -1,8 +1,10 @@
 -- A record acts by its kind on the memories of its side: the law of each kind, and the turn to the other side.
-use Prim.Native.Nat.{ℕ}
+use Prim.Native.Nat.{ℕ, _≤_}
 use mathlib.Core.Path.{_≡_, refl}
+use mathlib.Core.Bool.{true, false}
 use mathlib.Core.List.{List}
 use native.Mathlib.Omega.{arith}
+use lib.Dec.{eqb}
 use borrow.Author.Tests.{eq-eqb, ne-eqb}
 use Rattle.model.specs.Sides.{Side, host, card, other, Arrays, Cells}
 use Rattle.model.specs.Effects.{Action, read, write, need, mark, State}
@@ -45,19 +47,14 @@ module _ (x : Fields) (from to : ℕ) (s : Stored) (own others latest : List ℕ
       (λ _ arrays t q k. rw q (p arrays (side-of (x .side)) named others k))
       (λ z. absurd (omega arith)) (λ z. absurd (omega arith)) (λ z. absurd (omega arith))
 
-  pub here-copy : x .kind ≡ 3 → (own′ : List ℕ) → Low s → MovesCells from to s own others latest r own′ → ActsHere x from to s own others latest r own′ latest
-  here-copy e own′ low m =
-      by-kind x (omega arith, omega arith) (As own′ latest) (λ z. absurd (omega arith)) (λ z. absurd (omega arith))
-      (λ _ arrays t q k. rw q (λ σ l h. copy-follows h k low r own′ m))
-      (λ z. absurd (omega arith)) (λ z. absurd (omega arith))
-
-  pub here-need : x .kind ≡ 4 → (own′ : List ℕ) →
-      ((arrays : Arrays) (t : Side) → ArrayAt arrays (x .array) from to → Follows arrays (need t (x .array)) t s own others latest r own′ latest) →
+  pub here-move : (1 ≤ x .kind) × (x .kind ≤ 5) → (x .kind ≡ 1 → ⊥) → (x .kind ≡ 2 → ⊥) → (x .kind ≡ 5 → ⊥) → (own′ : List ℕ) → Low s → (eqb (x .kind) 4 ≡ false → MovesCells from to s own others latest r own′) →
+      (eqb (x .kind) 4 ≡ true → (arrays : Arrays) (t : Side) → ArrayAt arrays (x .array) from to → Follows arrays (need t (x .array)) t s own others latest r own′ latest) →
       ActsHere x from to s own others latest r own′ latest
-  here-need e own′ p =
-      by-kind x (omega arith, omega arith) (As own′ latest) (λ z. absurd (omega arith)) (λ z. absurd (omega arith)) (λ z. absurd (omega arith))
-      (λ _ arrays t q k. rw q (p arrays (side-of (x .side)) k))
-      (λ z. absurd (omega arith))
+  here-move b n1 n2 n5 own′ low m p =
+      by-kind x b (As own′ latest) (λ z. absurd (n1 z)) (λ z. absurd (n2 z))
+      (λ e arrays t q k. rw q (λ σ l h. copy-follows h k low r own′ (m (ne-eqb (x .kind) 4 (λ z. omega arith)))))
+      (λ e arrays t q k. rw q (p (eq-eqb (x .kind) 4 e) arrays (side-of (x .side)) k))
+      (λ z. absurd (n5 z))
 
   pub here-mark : x .kind ≡ 5 →
       ((arrays : Arrays) (t : Side) (from to : ℕ) (own others latest : List ℕ) → ArrayAt arrays (x .array) from to → Follows arrays (mark t (x .array)) t s own others latest r own latest) →

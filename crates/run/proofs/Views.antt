@@ -1,37 +1,31 @@
 -- The memory view: whether cells are all current, the answer by the rows, the side and the part.
-use mathlib.Core.Path.{_≡_, refl, ap, _∙_}
+use mathlib.Core.Path.{_≡_, refl, sym, ap, _∙_}
 use mathlib.Core.Bool.{Bool, true, false, not, cond, _&&_, _||_}
 use mathlib.Core.List.{List, []}
-use Prim.Native.Nat.{ℕ, suc, _+_, _-_, _≤_, _<_, min}
-use native.Mathlib.Numerals.{add-one}
+use Prim.Native.Nat.{ℕ, _-_, _≤_, _<_, min}
 use native.Mathlib.Omega.{arith}
 use lib.Dec.{ltb, leb, eqb}
-use lib.ListN.{length, getD, take, drop}
-use borrow.Author.Tests.{eq-eqb, ne-eqb, leb-false, ltb-false}
+use lib.ListN.{length, take, drop}
+use borrow.Author.Tests.{eq-eqb, ne-eqb, eqb-true, eqb-false, leb-false, ltb-false}
 use Rattle.model.specs.declared.Verdict.{Verdict}
 use Rattle.model.specs.declared.Verdict.the-variants.{Accepted, Stopped, Refused}
 use Rattle.model.proofs.Booleans.{or-none}
 use Rattle.format.proofs.Laws.Rows.{holds, skips, skipped, empty}
 use Rattle.run.specs.declared.view.View.{View}
 use Rattle.run.specs.Viewing.{all-current, memory-view-answer, viewed-side, viewed, memory-view, view-by, memory-side}
+use Rattle.run.specs.Inner.Acting.{FirstStale}
+use Rattle.run.proofs.Cells.{each-current, one-stale}
 
--- whether all cells from c up to `end` are current
-module _ (copies latest : List ℕ) (c end : ℕ) where
-  pub current-here : c < end → getD copies c 0 ≡ getD latest c 0 → all-current copies latest c (end - c) ≡ all-current copies latest (c + 1) (end - (c + 1))
-  unfolding all-current
-  current-here h e =
-      let n : end - c ≡ suc (end - (c + 1)) = omega arith in
-      rw (n, eq-eqb (getD copies c 0) (getD latest c 0) e, add-one)
-
-  pub stale-here : c < end → (getD copies c 0 ≡ getD latest c 0 → ⊥) → all-current copies latest c (end - c) ≡ false
-  unfolding all-current
-  stale-here h e =
-      let n : end - c ≡ suc (end - (c + 1)) = omega arith in
-      rw (n, ne-eqb (getD copies c 0) (getD latest c 0) e)
-
-  pub current-end : end ≤ c → all-current copies latest c (end - c) ≡ true
-  unfolding all-current
-  current-end h = let z : end - c ≡ 0 = omega arith in rw z
+-- all cells from `from` up to `end` are current exactly if the first stale one is `end`
+pub no-stale : (copies latest : List ℕ) (from end r : ℕ) → FirstStale copies latest from end r → eqb r end ≡ all-current copies latest from (end - from)
+no-stale copies latest from end r f = go (eqb r end) refl
+  where
+    go : (b : Bool) → eqb r end ≡ b → b ≡ all-current copies latest from (end - from)
+    go true e = let q = eqb-true r end e in sym (each-current copies latest (end - from) from (λ k i j. f .before k i (omega (arith, f .low))))
+    go false e =
+        let q = eqb-false r end e in
+        let l : r < end = omega (arith, f .high) in
+        sym (one-stale copies latest (end - from) from r (f .low) (omega arith) (f .here l))
 
 -- the view of the cells `from` up to `end`
 module _ (host card latest : List ℕ) (from end : ℕ) where

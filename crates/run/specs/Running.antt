@@ -24,6 +24,7 @@ pub record Lent : Type 0 where
   pub latest : List ℕ
   pub tally : Tally
 
+-- from its four parts
 abbrev pub lent : List ℕ → List ℕ → List ℕ → Tally → Lent
 lent h c l t = record { host = h; card = c; latest = l; tally = t }
 

@@ -1,11 +1,12 @@
 // What a record of kind 1 to 5 does, seen from its own side: to the copies of that side, its flags, and the tally.
 ghost use mathlib.Core.Path.{_≡_};
+ghost use mathlib.Core.Bool.{true, false};
 ghost use mathlib.Core.List.{List};
 ghost use Prim.Native.Nat.{ℕ, _≤_, _<_};
 ghost use Rattle.model.specs.Sides.{Side, Arrays, Cells};
 ghost use Rattle.model.specs.Effects.{read, write, need, mark};
 ghost use Rattle.format.specs.Plans.{side-of, action-of};
-ghost use Rattle.run.specs.Inner.Acting.{Room, Rooms, Same, Low, CellsAt, ArrayAt, Spans, BothSet, swapped, turned-as, Follows, Acts, MovesCells};
+ghost use Rattle.run.specs.Inner.Acting.{Room, Rooms, Same, Low, CellsAt, ArrayAt, Spans, BothSet, BothSetAs, swapped, turned-as, Follows, Acts, MovesCells};
 use crate::flags::flag_set;
 use crate::flags::with_flag;
 use crate::flags::without_flag;
@@ -120,9 +121,22 @@ fn both_set(s: Stored, array: u8) -> Stored
     }
 }
 
-// A need of an array, whose cells are `from` up to `to`.
-fn act_need(
+// The same where a record has acted.
+fn with_both(r: Acted, array: u8) -> Acted
+    requires { ⌜ array < 32 ⌝ }
+    ensures { λ q. ⌜ BothSetAs r array q ⌝ }
+{
+    match r {
+        Acted::Done(s) => Acted::Done(both_set(s, array)),
+        Acted::Unmet(c) => Acted::Unmet(c),
+    }
+}
+
+// A copy of the cells `from` up to `to` from the other side, or a need of the array that they are.
+// Both go through one call of `act_copy`, which the compiler then puts in place.
+fn act_move(
     s: Stored,
+    needs: bool,
     array: u8,
     from: usize,
     to: usize,
@@ -131,16 +145,18 @@ fn act_need(
     latest: &[u64],
 ) -> Acted
     requires { ⌜ Low s × (array < 32) × (to ≤ 4096) × Room from to (now own) × Room from to (now other) × Room from to (now latest) ⌝ }
-    ensures follows { λ r. ⌜ ((arrays : Arrays) (t : Side) → ArrayAt arrays array from to → Follows arrays (need t array) t s (now (own .entry)) (now (other .entry)) (now (latest .entry)) r (now (own .exit)) (now (latest .entry))) ⌝ }
+    ensures copies { λ r. ⌜ (needs ≡ false → MovesCells from to s (now (own .entry)) (now (other .entry)) (now (latest .entry)) r (now (own .exit))) ⌝ }
+    ensures follows { λ r. ⌜ (needs ≡ true → (arrays : Arrays) (t : Side) → ArrayAt arrays array from to → Follows arrays (need t array) t s (now (own .entry)) (now (other .entry)) (now (latest .entry)) r (now (own .exit)) (now (latest .entry))) ⌝ }
     ensures own { λ _. ⌜ Same to (now (own .entry)) (now (own .exit)) ⌝ }
 {
-    if flag_set(s.flags, array) {
+    if needs & flag_set(s.flags, array) {
         return Acted::Done(s);
     }
-    match act_copy(s, from, to, own, other, latest) {
-        Acted::Done(moved) => Acted::Done(both_set(moved, array)),
-        Acted::Unmet(c) => Acted::Unmet(c),
+    let r = act_copy(s, from, to, own, other, latest);
+    if needs {
+        return with_both(r, array);
     }
+    r
 }
 
 // A mark of an array.
@@ -177,9 +193,8 @@ fn act_here(
     match kind {
         1 => act_read(s, from, to, own, latest),
         2 => act_write(s, from, to, own, latest),
-        3 => act_copy(s, from, to, own, other, latest),
-        4 => act_need(s, array, from, to, own, other, latest),
-        _ => act_mark(s, array),
+        5 => act_mark(s, array),
+        _ => act_move(s, kind == 4, array, from, to, own, other, latest),
     }
 }
 

@@ -1,17 +1,19 @@
 // The runner: one step, with its invariant.
 ghost use mathlib.Core.Path.{_≡_};
 ghost use mathlib.Core.Bool.{true};
-ghost use Prim.Native.Nat.{_+_, _≤_, _<_};
+ghost use mathlib.Core.List.{List};
+ghost use Prim.Native.Nat.{ℕ, _+_, _≤_, _<_};
 ghost use lib.ListN.{length};
 ghost use Rattle.model.specs.Sides.{cells};
 ghost use Rattle.format.specs.Bytes.{arrays-of, record-count};
 ghost use Rattle.format.specs.Opening.{first-arm, second-arm};
 ghost use Rattle.format.specs.Inner.Walks.{Plain, Starts};
 ghost use Rattle.run.specs.Inner.Acting.{Same};
-ghost use Rattle.run.specs.Inner.Standing.{past-record, ended-with, moved-to, arm-ended, tested, from-of, to-of, measure, Reaches};
+ghost use Rattle.run.specs.Inner.Standing.{spot, runner, past-record, ended-with, moved-to, arm-ended, tested, from-of, to-of, measure, Reaches};
 use crate::acts::Acted;
 use crate::acts::Stored;
 use crate::acts::act;
+use crate::place::LEVELS;
 use crate::place::Place;
 use crate::place::choose;
 use crate::place::leave;
@@ -30,7 +32,7 @@ pub struct Machine {
 
 // The run has ended.
 fn ended(m: Machine, v: Verdict) -> Machine
-    ensures { λ r. ⌜ r ≡ ended-with m v ⌝ }
+    ensures { λ r. ⌜ ((ends backs : List ℕ) → runner r ends backs ≡ ended-with (runner m ends backs) v) ⌝ }
 {
     let p = m.place;
     let s = m.stored;
@@ -44,7 +46,7 @@ fn ended(m: Machine, v: Verdict) -> Machine
 
 // The run has moved on.
 fn moved(m: Machine, p: Place, s: Stored) -> Machine
-    ensures { λ r. ⌜ r ≡ moved-to m p s ⌝ }
+    ensures { λ r. ⌜ ((ends backs : List ℕ) → runner r ends backs ≡ moved-to (runner m ends backs) (spot p ends backs) s) ⌝ }
 {
     let mut n = m;
     n.place = p;
@@ -53,22 +55,28 @@ fn moved(m: Machine, p: Place, s: Stored) -> Machine
 }
 
 // The end of an arm, or of the body.
-fn arm_end(m: Machine) -> Machine
+fn arm_end(m: Machine, ends: &[u16; LEVELS], backs: &[u16; LEVELS]) -> Machine
     requires { ⌜ m .place .depth ≤ 16 ⌝ }
-    ensures { λ r. ⌜ r ≡ arm-ended m ⌝ }
+    ensures { λ r. ⌜ runner r (now (ends .entry)) (now (backs .entry)) ≡ arm-ended (runner m (now (ends .entry)) (now (backs .entry))) ⌝ }
 {
     let p = m.place;
     if p.depth == 0 {
         return ended(m, Verdict::Accepted);
     }
     let s = m.stored;
-    moved(m, leave(p), s)
+    moved(m, leave(p, ends, backs), s)
 }
 
 // A branch, or a test of a loop, with the fields x.
-fn test(m: Machine, x: Fields, choices: &[u8]) -> Machine
+fn test(
+    m: Machine,
+    x: Fields,
+    choices: &[u8],
+    ends: &mut [u16; LEVELS],
+    backs: &mut [u16; LEVELS],
+) -> Machine
     requires { ⌜ (m .place .depth < 16) × (m .place .used ≤ length (now choices)) × (length (now choices) ≤ 65536) × (m .place .at + 1 + first-arm x + second-arm x < 65536) ⌝ }
-    ensures { λ r. ⌜ r ≡ tested m x (now (choices .entry)) ⌝ }
+    ensures { λ r. ⌜ runner r (now (ends .exit)) (now (backs .exit)) ≡ tested (runner m (now (ends .entry)) (now (backs .entry))) x (now (choices .entry)) ⌝ }
 {
     let p = m.place;
     let used = p.used as usize;
@@ -76,13 +84,13 @@ fn test(m: Machine, x: Fields, choices: &[u8]) -> Machine
         return ended(m, Verdict::Refused(22, p.at));
     }
     let s = m.stored;
-    moved(m, choose(p, x, choices[used]), s)
+    moved(m, choose(p, x, choices[used], ends, backs), s)
 }
 
 // The place past a record without arms.
 fn past(p: Place) -> Place
     requires { ⌜ p .at < 1024 ⌝ }
-    ensures { λ r. ⌜ r ≡ past-record p ⌝ }
+    ensures { λ r. ⌜ ((ends backs : List ℕ) → spot r ends backs ≡ past-record (spot p ends backs)) ⌝ }
 {
     let mut q = p;
     q.at = p.at + 1;
@@ -121,21 +129,23 @@ pub fn step(
     host: &mut [u64],
     card: &mut [u64],
     latest: &mut [u64],
+    ends: &mut [u16; LEVELS],
+    backs: &mut [u16; LEVELS],
 ) -> Machine
-    requires { ⌜ (m .running ≡ true) × (length (now choices) ≤ 65536) × Plain (now plan) bodies × Starts (now plan) (now starts) × Reaches (now plan) (now choices) m (now host) (now card) (now latest) ⌝ }
-    ensures reaches { λ r. ⌜ Reaches (now (plan .entry)) (now (choices .entry)) r (now (host .exit)) (now (card .exit)) (now (latest .exit)) ⌝ }
-    ensures less { λ r. ⌜ measure (length (now (choices .entry))) r < measure (length (now (choices .entry))) m ⌝ }
+    requires { ⌜ (m .running ≡ true) × (length (now choices) ≤ 65536) × Plain (now plan) bodies × Starts (now plan) (now starts) × Reaches (now plan) (now choices) (runner m (now ends) (now backs)) (now host) (now card) (now latest) ⌝ }
+    ensures reaches { λ r. ⌜ Reaches (now (plan .entry)) (now (choices .entry)) (runner r (now (ends .exit)) (now (backs .exit))) (now (host .exit)) (now (card .exit)) (now (latest .exit)) ⌝ }
+    ensures less { λ r. ⌜ measure (length (now (choices .entry))) (runner r (now (ends .exit)) (now (backs .exit))) < measure (length (now (choices .entry))) (runner m (now (ends .entry)) (now (backs .entry))) ⌝ }
     ensures host { λ _. ⌜ Same (cells (arrays-of (now (plan .entry)))) (now (host .entry)) (now (host .exit)) ⌝ }
     ensures card { λ _. ⌜ Same (cells (arrays-of (now (plan .entry)))) (now (card .entry)) (now (card .exit)) ⌝ }
     ensures latest { λ _. ⌜ Same (cells (arrays-of (now (plan .entry)))) (now (latest .entry)) (now (latest .exit)) ⌝ }
 {
     let p = m.place;
     if p.at == p.end {
-        return arm_end(m);
+        return arm_end(m, ends, backs);
     }
     let x = record_at(plan, bodies, p.at as usize);
     if 6 <= x.kind {
-        return test(m, x, choices);
+        return test(m, x, choices, ends, backs);
     }
     let a = x.array as usize;
     let first = starts[a];

@@ -10,7 +10,7 @@ ghost use Rattle.format.specs.Bytes.{kind-of, arrays-of};
 ghost use Rattle.format.specs.Opened.{opened};
 ghost use Rattle.run.specs.Running.{lent, run-rows, mask, no-end};
 ghost use Rattle.run.specs.Inner.Acting.{Room, Changed, Same};
-ghost use Rattle.run.specs.Inner.Standing.{first-machine, end-with, tally-with, Reaches, Ready};
+ghost use Rattle.run.specs.Inner.Standing.{first-machine, end-with, tally-with, Reaches-end, Ready};
 use crate::End;
 use crate::acts::Stored;
 use crate::flags::all_flags;
@@ -18,6 +18,7 @@ use crate::flags::flags_set;
 use crate::machine::Machine;
 use crate::machine::step;
 use crate::memories::fill;
+use crate::place::LEVELS;
 use crate::place::first_place;
 use format::Opened;
 use model::Tally;
@@ -96,7 +97,7 @@ pub fn run_to_end(
     latest: &mut [u64],
 ) -> Machine
     requires { ⌜ Ready (now plan) o (now choices) (now host) (now card) (now latest) ⌝ }
-    ensures reaches { λ r. ⌜ Reaches (now (plan .entry)) (now (choices .entry)) r (now (host .exit)) (now (card .exit)) (now (latest .exit)) ⌝ }
+    ensures reaches { λ r. ⌜ Reaches-end (now (plan .entry)) (now (choices .entry)) r (now (host .exit)) (now (card .exit)) (now (latest .exit)) ⌝ }
     ensures ended { λ r. ⌜ r .running ≡ false ⌝ }
     ensures host { λ _. ⌜ Same (cells (arrays-of (now (plan .entry)))) (now (host .entry)) (now (host .exit)) ⌝ }
     ensures card { λ _. ⌜ Same (cells (arrays-of (now (plan .entry)))) (now (card .entry)) (now (card .exit)) ⌝ }
@@ -106,8 +107,21 @@ pub fn run_to_end(
     let starts = o.array_starts;
     write_start(host, card, latest, o.cells as usize);
     let mut m = first_machine(o.records, o.arrays);
+    let mut ends = [0u16; LEVELS];
+    let mut backs = [0u16; LEVELS];
     while m.running {
-        m = step(m, plan, bodies, &starts, choices, host, card, latest);
+        m = step(
+            m,
+            plan,
+            bodies,
+            &starts,
+            choices,
+            host,
+            card,
+            latest,
+            &mut ends,
+            &mut backs,
+        );
     }
     m
 }

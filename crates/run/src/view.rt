@@ -3,6 +3,7 @@ ghost use mathlib.Core.Path.{_≡_};
 ghost use Prim.Native.Nat.{_-_, _≤_, min};
 ghost use lib.ListN.{length};
 ghost use Rattle.run.specs.Viewing.{all-current, memory-view-answer, memory-view, memory-side};
+use crate::memories::first_stale;
 use model::Verdict;
 
 // An answer with the side of the part, where it is accepted.
@@ -23,14 +24,7 @@ fn all_current(copies: &[u64], latest: &[u64], from: usize, end: usize) -> bool
     requires { ⌜ (from ≤ end) × (end ≤ length (now copies)) × (end ≤ length (now latest)) ⌝ }
     ensures { λ r. ⌜ r ≡ all-current (now (copies .entry)) (now (latest .entry)) from (end - from) ⌝ }
 {
-    let mut c = from;
-    while c < end {
-        if copies[c] != latest[c] {
-            return false;
-        }
-        c += 1;
-    }
-    true
+    first_stale(copies, latest, from, end) == end
 }
 
 // The side whose cells `first` up to `end` the view is, or 23 or 24.

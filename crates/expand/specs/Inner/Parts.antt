@@ -28,6 +28,7 @@ pub record DeclarationsAt (f : List ℕ) (r n : ℕ) : Type 0 where
 unfoldable pub over : List ℕ → List ℕ → List ℕ
 over new old = new ++ drop (length new) old
 
+-- the bytes of records, one after the other
 unfoldable pub bytes-of : List Fields → List ℕ
 bytes-of l = joined record-bytes l
 

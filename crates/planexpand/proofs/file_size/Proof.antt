@@ -1,5 +1,4 @@
 -- `planexpand::file_size` reads the length off the contents.
-use native.Mathlib.Omega.{arith}
 use borrow.Author.Needs.{needs}
 use Rattle.planexpand.specs.Expansions.{size-by-contents}
 use Rattle.planexpand.proofs.file_size.Statement.{statement}

@@ -59,8 +59,8 @@ returns-2 : tie.Need-returns-2
 returns-2 c =
     let r = c .before .before .before .before .before .before .before .before .run-to-end in
     let w = r .ensures in
-    let e = c .before .end-of .ensures _ _ _ (w .0 .holds .own-flags) (w .0 .holds .others-flags) in
-    rw (c .tally-of .ensures) (runs-ran _ _ _ (accepted (c .before .before .before .before .before .before .before .before .before .before .before .before)) _ _ (ran _ _ _ _ _ _ (w .0) (w .1 .0) _ _ _ _ (w .1 .1 .0) (w .1 .1 .1 .0) (w .1 .1 .1 .1) _ e))
+    let e = c .before .end-of .ensures _ _ _ (w .0 .reaches .holds .own-flags) (w .0 .reaches .holds .others-flags) in
+    rw (c .tally-of .ensures) (runs-ran _ _ _ (accepted (c .before .before .before .before .before .before .before .before .before .before .before .before)) _ _ (ran _ _ _ _ _ _ (w .0 .reaches) (w .1 .0) _ _ _ _ (w .1 .1 .0) (w .1 .1 .1 .0) (w .1 .1 .1 .1) _ e))
 
 pub run-opened-spec : {M : Type 1} → statement M
 run-opened-spec =

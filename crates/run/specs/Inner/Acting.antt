@@ -32,6 +32,28 @@ pub record Rooms (from to : ℕ) (own others latest : List ℕ) : Type 0 where
 abbrev pub among : ℕ → ℕ → ℕ → Bool
 among from to c = leb from c && ltb c to
 
+-- whether the copy of a cell is current
+abbrev pub is-current : List ℕ → List ℕ → ℕ → Bool
+is-current copies latest c = eqb (getD copies c 0) (getD latest c 0)
+
+-- whether those of the 8 cells from c on are
+abbrev pub block-current : List ℕ → List ℕ → ℕ → Bool
+block-current copies latest c =
+    is-current copies latest c
+    && is-current copies latest (c + 1)
+    && is-current copies latest (c + 2)
+    && is-current copies latest (c + 3)
+    && is-current copies latest (c + 4)
+    && is-current copies latest (c + 5)
+    && is-current copies latest (c + 6)
+    && is-current copies latest (c + 7)
+
+-- the copies from `from` up to r are current
+pub record CurrentTo (copies latest : List ℕ) (from to r : ℕ) : Type 0 where
+  pub low : from ≤ r
+  pub high : r ≤ to
+  pub before : (c : ℕ) → from ≤ c → c < r → getD copies c 0 ≡ getD latest c 0
+
 -- r is the first of them whose copy is stale, `to` if none is
 pub record FirstStale (copies latest : List ℕ) (from to r : ℕ) : Type 0 where
   pub low : from ≤ r
@@ -55,12 +77,13 @@ pub record Low (s : Stored) : Type 0 where
   pub writes : s .writes < 4294967296
   pub moved : s .moved < 17592186044416
 
--- the cells of a range, or of an array, are those from `from` up to `to`
+-- the cells of a range are those from `from` up to `to`
 pub record CellsAt (arrays : Arrays) (x : Cells) (from to : ℕ) : Type 0 where
   pub begins : from ≡ first-of arrays (x .array) + x .p
   pub ends : to ≡ first-of arrays (x .array) + x .q
   pub fits : x .q ≤ length-of arrays (x .array)
 
+-- those of an array
 pub record ArrayAt (arrays : Arrays) (a from to : ℕ) : Type 0 where
   pub one : a < length arrays
   pub begins : from ≡ first-of arrays a
@@ -98,10 +121,18 @@ pub record BothSet (s : Stored) (a : ℕ) (r : Stored) : Type 0 where
   pub writes : r .writes ≡ s .writes
   pub moved : r .moved ≡ s .moved
 
+-- the same where a record has acted
+abbrev pub BothSetAs : Acted → ℕ → Acted → Type 0
+BothSetAs (Done s) a (Done s′) = BothSet s a s′
+BothSetAs (Done s) a (Unmet c) = ⊥
+BothSetAs (Unmet c) a (Done s) = ⊥
+BothSetAs (Unmet c) a (Unmet c′) = c′ ≡ c
+
 -- the flags seen from the other side
 abbrev pub swapped : Stored → Stored
 swapped s = record { flags = s .«other_flags»; «other_flags» = s .flags; reads = s .reads; writes = s .writes; moved = s .moved }
 
+-- an answer seen from the other side
 abbrev pub turned-as : Acted → Acted
 turned-as (Done s) = Done (swapped s)
 turned-as (Unmet c) = Unmet c
@@ -120,6 +151,7 @@ abbrev pub ActsAs : Arrays → Action → State → List Event → List ℕ → 
 ActsAs arrays y σ l own others latest (Done s) own′ others′ latest′ = (lowest-unmet arrays y σ ≡ none) × Holds arrays host s own′ others′ latest′ (effect arrays y σ) (event y σ ∷ l)
 ActsAs arrays y σ l own others latest (Unmet c) own′ others′ latest′ = (lowest-unmet arrays y σ ≡ some (c .0)) × (own′ ≡ own) × (others′ ≡ others) × (latest′ ≡ latest)
 
+-- whatever state the memories, flags and tally held
 abbrev pub Acts : Arrays → Action → Stored → List ℕ → List ℕ → List ℕ → Acted → List ℕ → List ℕ → List ℕ → Type 0
 Acts arrays y s own others latest r own′ others′ latest′ = (σ : State) (l : List Event) → Holds arrays host s own others latest σ l → ActsAs arrays y σ l own others latest r own′ others′ latest′
 

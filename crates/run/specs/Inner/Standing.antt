@@ -13,7 +13,7 @@ use Rattle.model.specs.Blocks.{Block, _then_}
 use Rattle.model.specs.Runs.{Config, Step, finished, stopped, out-of-choices, step, Run, tally}
 use Rattle.format.specs.declared.Fields.{Fields}
 use Rattle.format.specs.declared.Opened.{Opened}
-use Rattle.format.specs.Bytes.{kind-of, table, arrays-of, record-count}
+use Rattle.format.specs.Bytes.{kind-of, arrays-of, record-count}
 use Rattle.format.specs.Opening.{first-arm, second-arm, opening}
 use Rattle.format.specs.Opened.{opened}
 use Rattle.format.specs.Plans.{plan-of}
@@ -25,37 +25,35 @@ use Rattle.run.specs.declared.End.{End}
 use Rattle.run.specs.Running.{choices-of, mask, set-flags, no-end}
 use Rattle.run.specs.Inner.Acting.{Holds}
 
--- the moves of a place
+-- a place with its stack. Entry d of the stack: the end of what holds an arm at depth d, and where the run goes on in it after the arm
+pub record Spot : Type 0 where
+  pub at : ℕ
+  pub end : ℕ
+  pub depth : ℕ
+  pub used : ℕ
+  pub ends : List ℕ
+  pub backs : List ℕ
+
+-- from its two parts
+abbrev pub spot : Place → List ℕ → List ℕ → Spot
+spot p ends backs = record { at = p .at; end = p .end; depth = p .depth; used = p .used; ends = ends; backs = backs }
+
+-- a machine with its stack
+pub record Runner : Type 0 where
+  pub place : Spot
+  pub stored : Stored
+  pub verdict : Verdict
+  pub running : Bool
+
+-- from its two parts
+abbrev pub runner : Machine → List ℕ → List ℕ → Runner
+runner m ends backs = record { place = spot (m .place) ends backs; stored = m .stored; verdict = m .verdict; running = m .running }
+
+-- the first record of a body
 abbrev pub started : ℕ → Place
-started records = record { at = 0; end = records; depth = 0; used = 0; ends = table (λ i. 0) 16; backs = table (λ i. 0) 16 }
+started records = record { at = 0; end = records; depth = 0; used = 0 }
 
-abbrev pub entered : Place → ℕ → ℕ → ℕ → Place
-entered p at end back = record { at = at; end = end; depth = p .depth + 1; used = p .used + 1; ends = set (p .ends) (p .depth) (p .end); backs = set (p .backs) (p .depth) back }
-
-abbrev pub skipped : Place → ℕ → Place
-skipped p at = record { at = at; end = p .end; depth = p .depth; used = p .used + 1; ends = p .ends; backs = p .backs }
-
-abbrev pub left-arm : Place → Place
-left-arm p = record { at = getD (p .backs) (p .depth - 1) 0; end = getD (p .ends) (p .depth - 1) 0; depth = p .depth - 1; used = p .used; ends = p .ends; backs = p .backs }
-
-abbrev pub past-record : Place → Place
-past-record p = record { at = p .at + 1; end = p .end; depth = p .depth; used = p .used; ends = p .ends; backs = p .backs }
-
-unfoldable pub chosen : Place → Fields → ℕ → Place
-chosen p x choice =
-    let second = p .at + 1 + first-arm x in
-    let next = second + second-arm x in
-    cond (eqb (x .kind) 6)
-    (cond (eqb choice 0) (entered p second next next) (entered p (p .at + 1) second next))
-    (cond (eqb choice 0) (skipped p next) (entered p (p .at + 1) second (p .at)))
-
--- the moves of a machine
-abbrev pub ended-with : Machine → Verdict → Machine
-ended-with m v = record { place = m .place; stored = m .stored; verdict = v; running = false }
-
-abbrev pub moved-to : Machine → Place → Stored → Machine
-moved-to m p s = record { place = p; stored = s; verdict = m .verdict; running = m .running }
-
+-- before the first record
 abbrev pub first-machine : ℕ → ℕ → Machine
 first-machine records arrays = record {
   place = started records;
@@ -64,18 +62,54 @@ first-machine records arrays = record {
   running = true;
 }
 
-unfoldable pub arm-ended : Machine → Machine
+-- into an arm
+abbrev pub entered : Spot → ℕ → ℕ → ℕ → Spot
+entered p at end back = record { at = at; end = end; depth = p .depth + 1; used = p .used + 1; ends = set (p .ends) (p .depth) (p .end); backs = set (p .backs) (p .depth) back }
+
+-- past a loop
+abbrev pub skipped : Spot → ℕ → Spot
+skipped p at = record { at = at; end = p .end; depth = p .depth; used = p .used + 1; ends = p .ends; backs = p .backs }
+
+-- out of an arm
+abbrev pub left-arm : Spot → Spot
+left-arm p = record { at = getD (p .backs) (p .depth - 1) 0; end = getD (p .ends) (p .depth - 1) 0; depth = p .depth - 1; used = p .used; ends = p .ends; backs = p .backs }
+
+-- past a record without arms
+abbrev pub past-record : Spot → Spot
+past-record p = record { at = p .at + 1; end = p .end; depth = p .depth; used = p .used; ends = p .ends; backs = p .backs }
+
+-- where a branch or a test of a loop leads on a choice
+unfoldable pub chosen : Spot → Fields → ℕ → Spot
+chosen p x choice =
+    let second = p .at + 1 + first-arm x in
+    let next = second + second-arm x in
+    cond (eqb (x .kind) 6)
+    (cond (eqb choice 0) (entered p second next next) (entered p (p .at + 1) second next))
+    (cond (eqb choice 0) (skipped p next) (entered p (p .at + 1) second (p .at)))
+
+-- the run has ended
+abbrev pub ended-with : Runner → Verdict → Runner
+ended-with m v = record { place = m .place; stored = m .stored; verdict = v; running = false }
+
+-- the run has moved on
+abbrev pub moved-to : Runner → Spot → Stored → Runner
+moved-to m p s = record { place = p; stored = s; verdict = m .verdict; running = m .running }
+
+-- the end of an arm, or of the body
+unfoldable pub arm-ended : Runner → Runner
 arm-ended m = cond (eqb (m .place .depth) 0) (ended-with m Accepted) (moved-to m (left-arm (m .place)) (m .stored))
 
-unfoldable pub tested : Machine → Fields → List ℕ → Machine
+-- a branch, or a test of a loop
+unfoldable pub tested : Runner → Fields → List ℕ → Runner
 tested m x choices =
     cond (eqb (m .place .used) (length choices)) (ended-with m (Refused 22 (m .place .at)))
     (moved-to m (chosen (m .place) x (getD choices (m .place .used) 0)) (m .stored))
 
--- the cells of a record with the fields x, whose array has the cells `first` up to `next`
+-- the first cell of a record with the fields x, whose array has the cells `first` up to `next`
 abbrev pub from-of : Fields → ℕ → ℕ
 from-of x first = cond (leb (x .kind) 3) (first + x .p) first
 
+-- the cell after its last
 abbrev pub to-of : Fields → ℕ → ℕ → ℕ
 to-of x first next = cond (leb (x .kind) 3) (first + x .q) next
 
@@ -85,7 +119,7 @@ rest-of f ends backs zero = Block.done
 rest-of f ends backs (suc d) = block-between f (getD backs d 0) (getD ends d 0) then rest-of f ends backs d
 
 -- what is left at a place
-unfoldable pub left-of : List ℕ → Place → Block
+unfoldable pub left-of : List ℕ → Spot → Block
 left-of f p = block-between f (p .at) (p .end) then rest-of f (p .ends) (p .backs) (p .depth)
 
 -- how many records are left behind the innermost of `depth` arms, and one for the way out of each
@@ -94,7 +128,7 @@ weight-of ends backs zero = 0
 weight-of ends backs (suc d) = 1 + (getD ends d 0 - getD backs d 0) + weight-of ends backs d
 
 -- the same at a place: it falls with every step that takes no choice
-unfoldable pub weight : Place → ℕ
+unfoldable pub weight : Spot → ℕ
 weight p = (p .end - p .at) + weight-of (p .ends) (p .backs) (p .depth)
 
 -- more than the weight of any place
@@ -102,7 +136,7 @@ abbrev pub heavy : ℕ
 heavy = 32768
 
 -- it falls with every step of a machine that runs
-unfoldable pub measure : ℕ → Machine → ℕ
+unfoldable pub measure : ℕ → Runner → ℕ
 measure n m = (n - m .place .used) * heavy + weight (m .place) + cond (m .running) 1 0
 
 -- the records r up to `end`, inside d branches and loops, are part of the plan
@@ -116,7 +150,8 @@ unfoldable pub Parts : List ℕ → List ℕ → List ℕ → ℕ → Type 0
 Parts f ends backs zero = Unit {0}
 Parts f ends backs (suc d) = Part f d (getD backs d 0) (getD ends d 0) × Parts f ends backs d
 
-pub record Placed (f : List ℕ) (p : Place) : Type 0 where
+-- a place in the plan
+pub record Placed (f : List ℕ) (p : Spot) : Type 0 where
   pub all-ends : length (p .ends) ≡ 16
   pub all-backs : length (p .backs) ≡ 16
   pub here : Part f (p .depth) (p .at) (p .end)
@@ -131,7 +166,7 @@ Ended f k false (Stopped r c) = step (arrays-of f) k ≡ Step.ends (stopped (r .
 Ended f k false (Refused number r) = (number ≡ 22) × (step (arrays-of f) k ≡ Step.ends (out-of-choices r))
 
 -- the machine and the memories are at a configuration of the run
-pub record Reaches (f choices : List ℕ) (m : Machine) (own others latest : List ℕ) : Type 0 where
+pub record Reaches (f choices : List ℕ) (m : Runner) (own others latest : List ℕ) : Type 0 where
   pub config : Config
   pub run : Run (plan-of f) (choices-of choices) config
   pub placed : Placed f (m .place)
@@ -143,6 +178,12 @@ pub record Reaches (f choices : List ℕ) (m : Machine) (own others latest : Lis
   pub few : length (config .history) + weight (m .place) ≤ (m .place .used + 1) * heavy
   pub few-moved : tally (arrays-of f) (config .history) .moved ≤ length (config .history) * 4096
   pub ended : Ended f config (m .running) (m .verdict)
+
+-- the same of a machine whose stack is no longer there
+pub record Reaches-end (f choices : List ℕ) (m : Machine) (own others latest : List ℕ) : Type 0 where
+  pub ends : List ℕ
+  pub backs : List ℕ
+  pub reaches : Reaches f choices (runner m ends backs) own others latest
 
 -- the file is a plain plan that opening has found to be o, and the run may begin
 pub record Ready (f : List ℕ) (o : Opened) (choices own others latest : List ℕ) : Type 0 where

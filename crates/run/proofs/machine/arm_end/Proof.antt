@@ -15,7 +15,7 @@ ended-requires c κs = search needs
 
 returns : tie.Need-returns
 unfolding arm-ended
-returns c = rw (eq-eqb _ 0 (c .before .if1 .taken)) (c .ended .ensures)
+returns c = rw (eq-eqb _ 0 (c .before .if1 .taken)) (c .ended .ensures _ _)
 
 leave-requires : tie.Need-leave-requires
 leave-requires c κs = search needs
@@ -25,7 +25,7 @@ moved-requires c κs = search needs
 
 returns-2 : tie.Need-returns-2
 unfolding arm-ended
-returns-2 c = rw (ne-eqb _ 0 (c .before .before .before .if1 .left), ← c .before .leave .ensures) (c .moved .ensures)
+returns-2 c = rw (ne-eqb _ 0 (c .before .before .before .if1 .left), ← c .before .leave .ensures) (c .moved .ensures _ _)
 
 pub arm-end-spec : {M : Type 1} → statement M
 arm-end-spec = tie.close (tie.spec ended-requires returns leave-requires moved-requires returns-2)

@@ -44,12 +44,12 @@ ready-here c =
     able _ _ _ _ _ _ (a .pre .4) (a .pre .0) _ (a .pre .2) (before-end (c .before .before .before .before .before .before .before)) _ (x .ensures) (omega (arith, c .before .before .before .if2 .left)) (a .pre .1) _ _ (a .pre .3 .first _ (omega arith)) (a .pre .3 .first _ (omega arith))
 
 arm-end-requires : tie.Need-arm-end-requires
-arm-end-requires c κs = c .before .before .before .before .before .before .before .before .pre .4 .placed .shallow
+arm-end-requires c κs = c .before .before .before .before .before .before .before .before .before .before .pre .4 .placed .shallow
 
 returns : tie.Need-returns
 returns c =
-    let a = c .before .before .before .before .before .before .before .before .before in
-    let q = at-arm-end _ _ _ _ _ _ (a .pre .4) (a .pre .0) (c .before .if1 .taken) _ (c .arm-end .ensures) in
+    let a = c .before .before .before .before .before .before .before .before .before .before .before in
+    let q = at-arm-end _ _ _ _ _ _ (a .pre .4) (a .pre .0) (c .before .before .before .if1 .taken) _ (c .arm-end .ensures) in
     (q .0, (q .1, (same-all _ _, (same-all _ _, same-all _ _))))
 
 cast-record-at : tie.Need-cast-record-at
@@ -63,17 +63,17 @@ record-at-requires c κs =
 
 test-requires : tie.Need-test-requires
 test-requires c κs =
-    let a = c .before .before .before .before .before .before .before .before .before .before .before .before in
-    let x = c .before .before .record-at in
-    let h = before-end (c .before .before .before .before) in
+    let a = c .before .before .before .before .before .before .before .before .before .before .before .before .before .before in
+    let x = c .before .before .before .before .record-at in
+    let h = before-end (c .before .before .before .before .before .before) in
     let part = a .pre .4 .placed .here in
     let n = fits-inside _ _ (a .pre .2) _ _ _ part h _ (x .ensures) in
-    (not-deep _ _ (a .pre .2) _ _ _ part h _ (x .ensures) (c .if2 .taken), a .pre .4 .used, a .pre .1, omega (arith, n, part .inside, opened-facts _ (a .pre .2 .opens) .bounds .records))
+    (not-deep _ _ (a .pre .2) _ _ _ part h _ (x .ensures) (c .before .before .if2 .taken), a .pre .4 .used, a .pre .1, omega (arith, n, part .inside, opened-facts _ (a .pre .2 .opens) .bounds .records))
 
 returns-2 : tie.Need-returns-2
 returns-2 c =
-    let a = c .before .before .before .before .before .before .before .before .before .before .before .before .before in
-    let q = at-test _ _ _ _ _ _ (a .pre .4) (a .pre .0) _ (a .pre .2) (before-end (c .before .before .before .before .before)) _ (c .before .before .before .record-at .ensures) (c .before .if2 .taken) _ (c .test .ensures) in
+    let a = c .before .before .before .before .before .before .before .before .before .before .before .before .before .before .before in
+    let q = at-test _ _ _ _ _ _ (a .pre .4) (a .pre .0) _ (a .pre .2) (before-end (c .before .before .before .before .before .before .before)) _ (c .before .before .before .before .before .record-at .ensures) (c .before .before .before .if2 .taken) _ (c .test .ensures) in
     (q .0, (q .1, (same-all _ _, (same-all _ _, same-all _ _))))
 
 cast-a : tie.Need-cast-a
@@ -141,7 +141,7 @@ returns-3 c =
     let q = at-record _ _ _ _ _ _ (a .pre .4) (a .pre .0) _ (a .pre .2) (before-end (n .before .before .before .before .before .before .before)) _ (x .ensures) (r .kind .1) (a .pre .1) _ _ (a .pre .3 .first _ (omega arith)) (a .pre .3 .first _ (omega arith)) (v .result) _ _ _ acts in
     let i : c .before .before .before .before .before .before .before .before .before .before .before .before .before .before .before .before .next-cell .result ≤ cells (arrays-of (a .args .plan .now)) = rw (c .before .before .before .before .before .before .before .before .before .before .before .before .before .before .before .before .next-cell .ensures) (r .inside) in
     let t = rw (c .before .before .before .t .given .1) at q in
-    (rw (c .moved .ensures, c .before .past .ensures) (t .0), (rw (c .moved .ensures, c .before .past .ensures) (t .1), (same-more i (v .ensures .1 .0), (same-more i (v .ensures .1 .1 .0), same-more i (v .ensures .1 .1 .1)))))
+    (rw (c .moved .ensures _ _, c .before .past .ensures _ _) (t .0), (rw (c .moved .ensures _ _, c .before .past .ensures _ _) (t .1), (same-more i (v .ensures .1 .0), (same-more i (v .ensures .1 .1 .0), same-more i (v .ensures .1 .1 .1)))))
 
 same-length-4 : tie.Need-same-length-4
 same-length-4 c = search needs
@@ -164,7 +164,7 @@ returns-4 c =
     let q = at-record _ _ _ _ _ _ (a .pre .4) (a .pre .0) _ (a .pre .2) (before-end (n .before .before .before .before .before .before .before)) _ (x .ensures) (r .kind .1) (a .pre .1) _ _ (a .pre .3 .first _ (omega arith)) (a .pre .3 .first _ (omega arith)) (v .result) _ _ _ acts in
     let i : c .before .before .before .before .before .before .before .before .before .before .before .before .before .before .before .next-cell .result ≤ cells (arrays-of (a .args .plan .now)) = rw (c .before .before .before .before .before .before .before .before .before .before .before .before .before .before .before .next-cell .ensures) (r .inside) in
     let t = rw (c .before .before .c .given .1) at q in
-    (rw (c .ended .ensures) (t .0), (rw (c .ended .ensures) (t .1), (same-more i (v .ensures .1 .0), (same-more i (v .ensures .1 .1 .0), same-more i (v .ensures .1 .1 .1)))))
+    (rw (c .ended .ensures _ _) (t .0), (rw (c .ended .ensures _ _) (t .1), (same-more i (v .ensures .1 .0), (same-more i (v .ensures .1 .1 .0), same-more i (v .ensures .1 .1 .1)))))
 
 pub step-spec : {M : Type 1} → statement M
 step-spec =

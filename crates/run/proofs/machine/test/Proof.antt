@@ -18,7 +18,7 @@ ended-requires c κs = search needs
 
 returns : tie.Need-returns
 unfolding tested
-returns c = rw (eq-eqb _ _ (c .before .if1 .taken)) (c .ended .ensures)
+returns c = rw (eq-eqb _ _ (c .before .if1 .taken)) (c .ended .ensures _ _)
 
 shared-slice-read-choose : tie.Need-shared-slice-read-choose
 shared-slice-read-choose c = search needs
@@ -31,7 +31,7 @@ moved-requires c κs = search needs
 
 returns-2 : tie.Need-returns-2
 unfolding tested
-returns-2 c = rw (ne-eqb _ _ (c .before .before .before .before .if1 .left), ← c .before .choose .ensures) (c .moved .ensures)
+returns-2 c = rw (ne-eqb _ _ (c .before .before .before .before .before .before .if1 .left), ← c .before .choose .ensures) (c .moved .ensures _ _)
 
 pub test-spec : {M : Type 1} → statement M
 test-spec =

@@ -1,18 +1,21 @@
 -- `run::memories::first_stale` gives the first stale copy of a range. The invariant: the copies from `from` up to c are current.
-use Prim.Native.Nat.{ℕ, _-_, _≤_, _<_}
 use mathlib.Core.Path.{_≡_}
-use lib.ListN.{getD}
+use Prim.Native.Nat.{_-_}
 use native.Mathlib.Omega.{arith}
+use Rattle.run.specs.Inner.Acting.{CurrentTo}
 use Rattle.run.proofs.Cells.{current-next}
 use borrow.Author.Needs.{needs}
 use Rattle.run.proofs.memories.first_stale.Statement.{statement}
 use Rattle.run.proofs.memories.first_stale.Tie as tie
 
 abbrev Inv-loop : tie.InvT-loop
-Inv-loop copies latest from to c₀ c = (from ≤ c) × (c ≤ to) × ((k : ℕ) → from ≤ k → k < c → getD copies k 0 ≡ getD latest k 0)
+Inv-loop copies latest from to c₀ c = CurrentTo copies latest from to c
 
 abbrev μ-loop : tie.MeasureT-loop
 μ-loop copies latest from to c₀ c = to - c
+
+blocks-current-requires : tie.Need-blocks-current-requires Inv-loop μ-loop
+blocks-current-requires c κs = search needs
 
 loop-holds : tie.Need-loop-holds Inv-loop μ-loop
 loop-holds c = search needs
@@ -40,14 +43,14 @@ loop-less c = search needs
 
 loop-again : tie.Need-loop-again Inv-loop μ-loop
 loop-again c =
+    let a = c .before .before .before .before .before .before .before .before .args in
     let l = c .before .before .before .before .loop in
-    let a = c .before .before .before .before .before .args in
-    (omega arith, omega arith, current-next (a .copies .now) (a .latest .now) _ _ (l .inv .2) (c .if1 .left))
+    record { low = search needs; high = search needs; before = current-next (a .copies .now) (a .latest .now) _ _ (l .inv .before) (c .if1 .left) }
 
 returns-2 : tie.Need-returns-2 Inv-loop μ-loop
 returns-2 c =
-    let n : c .before .loop .c ≡ c .before .before .args .to = omega arith in
-    record { low = search needs; high = search needs; before = rw n at (c .before .loop .inv .2); here = search needs }
+    let n : c .before .loop .c ≡ c .before .before .before .before .before .args .to = omega arith in
+    record { low = search needs; high = search needs; before = rw n at (c .before .loop .inv .before); here = search needs }
 
 pub first-stale-spec : {M : Type 1} → statement M
 first-stale-spec =
@@ -55,6 +58,7 @@ first-stale-spec =
     (tie.spec
     Inv-loop
     μ-loop
+    blocks-current-requires
     loop-holds
     mul-if1
     shared-slice-read-if1
