@@ -30,7 +30,8 @@ use Rattle.expand.proofs.Laws.Files.{arrays-low}
 use Rattle.expand.proofs.Circle.Opens.{expansion-opens}
 use Rattle.expand.proofs.Circle.Writes.{judged-and-small, file-written}
 use Rattle.planexpand.specs.declared.Expansion.{Expansion}
-use Rattle.planexpand.specs.Expansions.{size-by-contents, shown, answer-with-room, ExpansionOf}
+use Rattle.planexpand.specs.Expansions.{shown, answer-with-room, ExpansionOf}
+use Rattle.planexpand.specs.Inner.Sizes.{size-by-contents}
 
 module _ (f : List ℕ) where
   -- an expansion has at most 1,024 records and at most 32 arrays

@@ -1,5 +1,5 @@
 -- What planexpand writes (document 01, 'Judging and expanding').
-use Prim.Native.Nat.{ℕ, _+_, _*_}
+use Prim.Native.Nat.{ℕ}
 use mathlib.Core.Path.{_≡_}
 use mathlib.Core.List.{List, [], _∷_, _++_}
 use lib.ListN.{take}
@@ -10,15 +10,10 @@ use Rattle.model.specs.declared.Verdict.the-variants.{Accepted, Stopped, Refuse
 use Rattle.model.specs.Verdicts.{values-of}
 use Rattle.model.specs.Blocks.{size}
 use Rattle.format.specs.Rows.{row, first}
-use Rattle.format.specs.Bytes.{entry-at, records-in}
 use Rattle.format.specs.Opened.{opened}
 use Rattle.judge.specs.Judged.{judge-rows}
 use Rattle.expand.specs.Expanded.{expansion-of, expansion-file, expand-answer, expanded}
 use Rattle.planexpand.specs.declared.Expansion.{Expansion}
-
--- the length of a plain plan's file, by the contents that stand at the front of the output
-unfoldable pub size-by-contents : List ℕ → ℕ
-size-by-contents out = entry-at out 0 + 4 + 8 * records-in out 0 + 2
 
 -- what goes to standard output: the expansion's file, at a refusal nothing
 abbrev pub shown : List ℕ → Verdict → List ℕ

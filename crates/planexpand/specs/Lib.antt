@@ -1,2 +1,3 @@
 -- What the program writes.
 pub mod Expansions
+pub mod Inner

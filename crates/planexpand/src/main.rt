@@ -1,7 +1,8 @@
 // Reads a declared plan file from standard input and writes its expansion's file to standard output. At a refusal it writes one line to
 // standard error, as plancheck does: the file's kind (0 if it does not open), the answer's number, place, cell (0).
 ghost use mathlib.Core.Path.{_≡_};
-ghost use Rattle.planexpand.specs.Expansions.{size-by-contents, ExpansionOf};
+ghost use Rattle.planexpand.specs.Expansions.{ExpansionOf};
+ghost use Rattle.planexpand.specs.Inner.Sizes.{size-by-contents};
 use console::ROOM;
 use format::bytes::entry_at;
 use format::bytes::u16_at;

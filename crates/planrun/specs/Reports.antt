@@ -13,14 +13,14 @@ use Rattle.format.specs.Bytes.{kind-of}
 use Rattle.format.specs.Opening.{open-rows}
 use Rattle.run.specs.Running.{Lent, lent, run-rows, Runs}
 use Rattle.planrun.specs.declared.report.Ending.{Ending}
-use Rattle.planrun.specs.declared.report.Ending.the-variants.{Done, Halted, Spent, Unbegun}
+use Rattle.planrun.specs.declared.report.Ending.the-variants as ending
 use Rattle.planrun.specs.declared.report.Report.{Report}
 
 -- "done", "21 stopped", "22 choices spent", or one of the numbers before the run
 abbrev pub ending-of : Verdict → Ending
-ending-of Accepted = Done
-ending-of (Stopped r c) = Halted
-ending-of (Refused number place) = cond (eqb number 22) Spent Unbegun
+ending-of Accepted = ending.Done
+ending-of (Stopped r c) = ending.Stopped
+ending-of (Refused number place) = cond (eqb number 22) ending.Spent ending.Refused
 
 -- the program's own memories before the run: 4,096 cells each, and a tally of nothing
 unfoldable pub own : Lent

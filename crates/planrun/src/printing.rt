@@ -68,8 +68,8 @@ pub fn print(r: Report) {
     let how = r.ending;
     match how {
         Ending::Done => print_done(r),
-        Ending::Halted => print_stopped(r),
+        Ending::Stopped => print_stopped(r),
         Ending::Spent => print_spent(r),
-        Ending::Unbegun => print_refused(r),
+        Ending::Refused => print_refused(r),
     }
 }

@@ -9,12 +9,12 @@ use run::End;
 // No plan has more cells.
 const CELLS: usize = 4096;
 
-// How a run ended: done, stopped, its choices spent, or not begun.
+// How a run ended; a refused one has not begun.
 pub enum Ending {
     Done,
-    Halted,
+    Stopped,
     Spent,
-    Unbegun,
+    Refused,
 }
 
 // What is reported of a run.
@@ -31,12 +31,12 @@ fn ending_of(v: Verdict) -> Ending
 {
     match v {
         Verdict::Accepted => Ending::Done,
-        Verdict::Stopped(_, _) => Ending::Halted,
+        Verdict::Stopped(_, _) => Ending::Stopped,
         Verdict::Refused(number, _) => {
             if number == 22 {
                 Ending::Spent
             } else {
-                Ending::Unbegun
+                Ending::Refused
             }
         }
     }

@@ -6,13 +6,6 @@ use Rattle.planexpand.proofs.Rooms.{refusal, written-out}
 use borrow.Author.Needs.{needs}
 use Rattle.planexpand.proofs.expansion_of.Statement.{statement}
 use Rattle.planexpand.proofs.expansion_of.Tie as tie
-use Rattle.planexpand.proofs.expansion_of.Reads as reads
-use Rattle.planexpand.proofs.expansion_of.Lts as lts
-use Rattle.expand.proofs.expand_judged.Reads as expand-judged-reads
-use Rattle.format.proofs.open.Reads as open-reads
-use Rattle.judge.proofs.judge_opened.Reads as judge-opened-reads
-use Rattle.model.proofs.values_of.Reads as values-of-reads
-use Rattle.planexpand.proofs.file_size.Reads as file-size-reads
 
 open-requires : tie.Need-open-requires
 open-requires c κs = search needs

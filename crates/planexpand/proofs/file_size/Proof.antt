@@ -1,6 +1,6 @@
 -- `planexpand::file_size` reads the length off the contents.
 use borrow.Author.Needs.{needs}
-use Rattle.planexpand.specs.Expansions.{size-by-contents}
+use Rattle.planexpand.specs.Inner.Sizes.{size-by-contents}
 use Rattle.planexpand.proofs.file_size.Statement.{statement}
 use Rattle.planexpand.proofs.file_size.Tie as tie
 
