@@ -168,9 +168,6 @@ module _ (f : List ℕ) (w : Facts f) where
       let n : first-record f 1 ≡ records-in f 0 = next-record f 0 (omega (arith, w .bounds .header .bodies)) ∙ rw z (zero-add (records-in f 0)) in
       rw (z, n) at (w .good 0 (omega (arith, w .bounds .header .bodies)))
 
-  pub body0-walk : Walkable f 0 (records-in f 0)
-  body0-walk = record { body = 0; depth = 0; good = body0-good }
-
   pub body0-body : declared-plan-of f .body0 ≡ body0-between f 0 (records-in f 0)
   unfolding declared-plan-of body0-between
   body0-body = refl

@@ -153,9 +153,6 @@ module _ (f : List ℕ) (file : DeclaredFile f) where
   pub body0-tested : (r : ℕ) → r < end → Tested f 0 end r
   body0-tested r h = good-tested f 0 0 0 end (body0-good f w) r (omega arith) h
 
-  pub body0-nested : (r : ℕ) → r < end → (fields-at f r .kind ≡ 8 → ⊥) → (6 ≤ fields-at f r .kind) × (fields-at f r .kind ≤ 7)
-  body0-nested r h z = let n = body0-kind r (body0-tested r h .allows) in (n .0, omega arith)
-
   pub body0-called : (r : ℕ) → r < end → fields-at f r .kind ≡ 8 → (1 ≤ fields-at f r .p) × (fields-at f r .p < body-count f)
   body0-called r h e = call-body f (fields-at f r) (body0-tested r h .fits) e
 
