@@ -19,10 +19,8 @@ const GRIDS: [u16; 3] = [8, 8, 4];
 /// computes costs and spreads them wave by wave; after each wave either the
 /// host traces tracks or it rips some up.
 pub fn router() -> Draft {
-    let load = Pass {
-        declarations: vec![declare(W, HOST, OBSTACLES)],
-        steps: vec![write(HOST, OBSTACLES, 0, 8)],
-    };
+    let load =
+        Pass { declarations: vec![declare(W, HOST, OBSTACLES)], steps: vec![write(HOST, OBSTACLES, 0, 8)] };
     let price = Pass {
         declarations: vec![declare(R, CARD, OBSTACLES), declare(W, CARD, COSTS)],
         steps: vec![read(CARD, OBSTACLES, 0, 8), write(CARD, COSTS, 0, 8)],
@@ -45,12 +43,8 @@ pub fn router() -> Draft {
             Step::Branch(vec![write(HOST, TRACKS, 0, 4), write(HOST, OBSTACLES, 3, 4)], vec![]),
         ],
     };
-    let script = [
-        call(1),
-        call(2),
-        Step::Loop(vec![call(3), Step::Branch(vec![call(4)], vec![call(5)])]),
-        call(4),
-    ];
+    let script =
+        [call(1), call(2), Step::Loop(vec![call(3), Step::Branch(vec![call(4)], vec![call(5)])]), call(4)];
     declared_draft(&GRIDS, &script, &[load, price, wave, trace, rip_up])
 }
 

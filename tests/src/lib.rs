@@ -8,4 +8,5 @@
 pub mod archive;
 pub mod examples;
 pub mod generate;
+pub mod programs;
 pub mod walker;

@@ -1,28 +1,16 @@
-//! The program `plancheck` against the walker. `CUPLIHANG_PLANCHECK` names the
-//! program, else it is the one that the gate has built.
+//! The program `plancheck` against the walker.
 
 use cuplihang_tests::generate::*;
+use cuplihang_tests::programs::text;
 use cuplihang_tests::walker::plancheck::line;
-use std::io::Write;
-use std::process::{Command, Stdio};
-
-fn program_line(file: &[u8]) -> String {
-    let built = concat!(env!("CARGO_MANIFEST_DIR"), "/../target/bin/plancheck");
-    let program = std::env::var_os("CUPLIHANG_PLANCHECK").unwrap_or(built.into());
-    let piped = |command: &mut Command| command.stdin(Stdio::piped()).stdout(Stdio::piped()).spawn();
-    let mut child = piped(&mut Command::new(program)).expect("the program starts");
-    child.stdin.take().unwrap().write_all(file).expect("the program reads its input to the end");
-    let output = child.wait_with_output().expect("the program ends");
-    String::from_utf8(output.stdout).expect("a line of decimals")
-}
 
 fn match_line(file: &[u8]) {
-    assert_eq!(program_line(file), line(file), "{:02X?}", &file[..file.len().min(400)]);
+    assert_eq!(text("plancheck", file), line(file), "{:02X?}", &file[..file.len().min(400)]);
 }
 
 #[test]
 fn case_3_and_the_other_cases() {
-    assert_eq!(program_line(&CASE_3), "2 18 0 0\n");
+    assert_eq!(text("plancheck", &CASE_3), "2 18 0 0\n");
     for (draft, _) in twelve_cases() {
         match_line(&encode(&draft));
     }

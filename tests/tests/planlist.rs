@@ -1,25 +1,13 @@
 //! The program `planlist` against a lister written again here, over the plan
-//! that the walker opens. `CUPLIHANG_PLANLIST` names the program, else it is
-//! the one that the gate has built.
+//! that the walker opens.
 
 use cuplihang_tests::generate::*;
+use cuplihang_tests::programs::text;
 use cuplihang_tests::walker::plan::*;
 use cuplihang_tests::walker::{open, Refusal};
 use std::collections::BTreeMap;
 use std::fmt::Write as _;
-use std::io::Write;
 use std::ops::Range;
-use std::process::{Command, Stdio};
-
-fn program_listing(file: &[u8]) -> String {
-    let built = concat!(env!("CARGO_MANIFEST_DIR"), "/../target/bin/planlist");
-    let program = std::env::var_os("CUPLIHANG_PLANLIST").unwrap_or(built.into());
-    let piped = |command: &mut Command| command.stdin(Stdio::piped()).stdout(Stdio::piped()).spawn();
-    let mut child = piped(&mut Command::new(program)).expect("the program starts");
-    child.stdin.take().unwrap().write_all(file).expect("the program reads its input to the end");
-    let output = child.wait_with_output().expect("the program ends");
-    String::from_utf8(output.stdout).expect("a listing in ASCII")
-}
 
 fn counted(n: usize, one: &str, several: &str) -> String {
     format!("{n} {}", if n == 1 { one } else { several })
@@ -134,7 +122,7 @@ fn listing(file: &[u8]) -> String {
 type Counts = BTreeMap<u16, usize>;
 
 fn match_listing(file: &[u8], counts: &mut Counts) {
-    assert_eq!(program_listing(file), listing(file), "{:02X?}", &file[..file.len().min(400)]);
+    assert_eq!(text("planlist", file), listing(file), "{:02X?}", &file[..file.len().min(400)]);
     *counts.entry(open(file).map_or_else(|refusal| refusal.number, |_| 0)).or_default() += 1;
 }
 
@@ -230,7 +218,7 @@ body 0: 2 records, 0 to 1
 #[test]
 fn the_twelve_cases() {
     for ((draft, _), expected) in twelve_cases().iter().zip(CASES) {
-        assert_eq!(program_listing(&encode(draft)), expected);
+        assert_eq!(text("planlist", &encode(draft)), expected);
     }
 }
 

@@ -1,33 +1,17 @@
 //! The programs `planexpand` and `planrun` against the walker.
-//! `CUPLIHANG_PLANEXPAND` and `CUPLIHANG_PLANRUN` name the programs, else they
-//! are those that the gate has built.
 
 use cuplihang_tests::examples::ROUTER_CHOICES;
 use cuplihang_tests::generate::*;
+use cuplihang_tests::programs::output;
 use cuplihang_tests::walker::expand::expansion;
 use cuplihang_tests::walker::plan::{MAX_CELLS, MAX_CHOICES};
 use cuplihang_tests::walker::{self, Memories, RunEnd, Tally, Verdict};
 use std::collections::BTreeMap;
 use std::ffi::OsStr;
-use std::io::Write;
 use std::path::{Path, PathBuf};
-use std::process::{Command, Output, Stdio};
 
 /// How often each number occurred, 0 for expanded or done.
 type Counts = BTreeMap<u16, usize>;
-
-/// What the program writes; it has no status of its own.
-fn output(name: &str, arguments: &[&OsStr], input: &[u8]) -> (Vec<u8>, String) {
-    let built = Path::new(env!("CARGO_MANIFEST_DIR")).join("../target/bin").join(name);
-    let named = std::env::var_os(format!("CUPLIHANG_{}", name.to_uppercase()));
-    let mut command = Command::new(named.map_or(built, PathBuf::from));
-    command.args(arguments).stdin(Stdio::piped()).stdout(Stdio::piped()).stderr(Stdio::piped());
-    let mut child = command.spawn().expect("the program starts");
-    child.stdin.take().unwrap().write_all(input).expect("the program reads its input to the end");
-    let Output { status, stdout, stderr } = child.wait_with_output().expect("the program ends");
-    assert!(status.success(), "{name}: {status}");
-    (stdout, String::from_utf8(stderr).expect("text"))
-}
 
 fn shown(file: &[u8]) -> String {
     format!("{} bytes {:02X?}", file.len(), &file[..file.len().min(400)])
