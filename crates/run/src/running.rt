@@ -10,7 +10,7 @@ ghost use Rattle.format.specs.Bytes.{kind-of, arrays-of};
 ghost use Rattle.format.specs.Opened.{opened};
 ghost use Rattle.run.specs.Running.{lent, run-rows, mask, no-end};
 ghost use Rattle.run.specs.Inner.Acting.{Room, Changed, Same};
-ghost use Rattle.run.specs.Inner.Standing.{first-machine, end-with, tally-with, Reaches-end, Ready};
+ghost use Rattle.run.specs.Inner.Standing.{first-machine, end-with, tally-with, ReachesEnd, Ready};
 use crate::End;
 use crate::acts::Stored;
 use crate::flags::all_flags;
@@ -97,7 +97,7 @@ pub fn run_to_end(
     latest: &mut [u64],
 ) -> Machine
     requires { ⌜ Ready (now plan) o (now choices) (now host) (now card) (now latest) ⌝ }
-    ensures reaches { λ r. ⌜ Reaches-end (now (plan .entry)) (now (choices .entry)) r (now (host .exit)) (now (card .exit)) (now (latest .exit)) ⌝ }
+    ensures reaches { λ r. ⌜ ReachesEnd (now (plan .entry)) (now (choices .entry)) r (now (host .exit)) (now (card .exit)) (now (latest .exit)) ⌝ }
     ensures ended { λ r. ⌜ r .running ≡ false ⌝ }
     ensures host { λ _. ⌜ Same (cells (arrays-of (now (plan .entry)))) (now (host .entry)) (now (host .exit)) ⌝ }
     ensures card { λ _. ⌜ Same (cells (arrays-of (now (plan .entry)))) (now (card .entry)) (now (card .exit)) ⌝ }

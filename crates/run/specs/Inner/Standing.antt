@@ -180,7 +180,7 @@ pub record Reaches (f choices : List ℕ) (m : Runner) (own others latest : List
   pub ended : Ended f config (m .running) (m .verdict)
 
 -- the same of a machine whose stack is no longer there
-pub record Reaches-end (f choices : List ℕ) (m : Machine) (own others latest : List ℕ) : Type 0 where
+pub record ReachesEnd (f choices : List ℕ) (m : Machine) (own others latest : List ℕ) : Type 0 where
   pub ends : List ℕ
   pub backs : List ℕ
   pub reaches : Reaches f choices (runner m ends backs) own others latest
