@@ -1,15 +1,13 @@
 // Runs a plain plan on a list of choices: reads both files, whose paths are its arguments, and prints the figures of the run.
 ghost use mathlib.Core.Path.{_≡_};
 ghost use Rattle.io.specs.Counts.{Counts};
+use console::ROOM;
 use libc::STDERR_FILENO;
 use printing::print;
 use report::report_of;
 
 mod printing;
 mod report;
-
-// The largest plan file has 8,390 bytes. A longer one is no plan, and its answer shows in its first bytes and in that it is longer.
-const PLAN_ROOM: usize = 8400;
 
 // One more than the most choices that a run takes, so that a longer file is seen to be longer.
 const CHOICES_ROOM: usize = 65537;
@@ -69,7 +67,7 @@ fn main() {
         io::write_all(STDERR_FILENO, b"usage: planrun PLAN CHOICES\n");
         return;
     }
-    let mut plan = [0u8; PLAN_ROOM];
+    let mut plan = [0u8; ROOM];
     let first = read_argument(1, b"plan file", &mut plan);
     if first.failed {
         return;
