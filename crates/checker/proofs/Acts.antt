@@ -4,7 +4,7 @@ use mathlib.Core.Path.{_≡_, refl, sym, _∙_}
 use mathlib.Core.Bool.{_&&_, _||_, and-true}
 use lib.Dec.{eqb, leb, ltb}
 use Rattle.model.specs.Sides.{Arrays, first-of, array-of}
-use Rattle.format.specs.declared.Fields.{Fields}
+use Rattle.reading.specs.declared.Fields.{Fields}
 use Rattle.format.specs.Plans.{side-of, action-of}
 use Rattle.format.proofs.Acts.{by-kind}
 use Rattle.checker.proofs.Touched as touched

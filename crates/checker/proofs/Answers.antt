@@ -19,10 +19,10 @@ use Rattle.model.specs.Verdicts.{stop}
 use Rattle.model.proofs.Summary.{Summary, summary}
 use Rattle.model.proofs.Numbering.{array-from}
 use Rattle.model.proofs.Check.{with-cell, over-cells, cell-stop}
-use Rattle.format.specs.Bytes.{array-count, arrays-of, record-count, fields-at}
+use Rattle.reading.specs.Bytes.{array-count, arrays-of, record-count, fields-at}
 use Rattle.format.specs.Plans.{plan-of}
 use Rattle.format.specs.Inner.Walks.{Plain, Starts, block-between}
-use Rattle.format.proofs.Laws.Tables.{first-more, first-rises, all-cells}
+use Rattle.reading.proofs.Tables.{first-more, first-rises, all-cells}
 use Rattle.format.proofs.Walking.{opened-facts}
 use Rattle.checker.specs.declared.summary.Summary.{Summary as Stored}
 use Rattle.checker.specs.Inner.Summaries.{record-of, reading, at-start}

@@ -14,12 +14,11 @@ use Rattle.model.specs.Blocks.{Block, done, act, branch, loop}
 use Rattle.model.proofs.Status.{status-of}
 use Rattle.model.proofs.Summary.{stored-summary, either, followed, repeated, summary}
 use Rattle.model.proofs.Check.{cell-stop}
-use Rattle.format.specs.declared.Fields.{Fields}
-use Rattle.format.specs.Opening.{first-arm, second-arm}
-use Rattle.format.specs.Bytes.{array-count, arrays-of, record-count, fields-at}
+use Rattle.reading.specs.declared.Fields.{Fields}
+use Rattle.reading.specs.Bytes.{first-arm, second-arm, array-count, arrays-of, record-count, fields-at}
 use Rattle.format.specs.Plans.{action-of, plan-of}
 use Rattle.format.specs.Inner.Walks.{Plain, Walkable, block-between}
-use Rattle.format.proofs.Laws.Tables.{first-rises, next-cell, all-cells}
+use Rattle.reading.proofs.Tables.{first-rises, next-cell, all-cells}
 use Rattle.format.proofs.Walking.{opened-facts, steps}
 use Rattle.format.proofs.Trees.{block-none, block-branch, block-loop, block-act, plain-walk, plain-body}
 use Rattle.checker.specs.Inner.Walks.{Clear, Marked}

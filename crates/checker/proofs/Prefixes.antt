@@ -13,9 +13,8 @@ use Rattle.model.proofs.Through.{then-done}
 use Rattle.model.proofs.Demand.Blocks.{then-assoc}
 use Rattle.model.proofs.Summary.{nothing, either, followed, repeated, summary}
 use Rattle.model.proofs.Numbering.{array-from}
-use Rattle.format.specs.declared.Fields.{Fields}
-use Rattle.format.specs.Bytes.{arrays-of, fields-at}
-use Rattle.format.specs.Opening.{first-arm, second-arm}
+use Rattle.reading.specs.declared.Fields.{Fields}
+use Rattle.reading.specs.Bytes.{arrays-of, fields-at, first-arm, second-arm}
 use Rattle.format.specs.Plans.{side-of, action-of}
 use Rattle.format.specs.Inner.Walks.{Walkable, block-between}
 use Rattle.format.proofs.Trees.{block-none, block-branch, block-loop, block-act, no-arms}

@@ -5,7 +5,7 @@ ghost use Prim.Native.Nat.{_+_, _≤_, _<_};
 ghost use lib.Dec.{eqb};
 ghost use Rattle.model.specs.Sides.{first-of, length-of};
 ghost use Rattle.model.proofs.Summary as model;
-ghost use Rattle.format.specs.Bytes.{arrays-of, record-count};
+ghost use Rattle.reading.specs.Bytes.{arrays-of, record-count};
 ghost use Rattle.format.specs.Inner.Walks.{Plain, Walkable, block-between};
 ghost use Rattle.checker.specs.Inner.Summaries.{reading};
 use crate::fields::touches;
@@ -15,10 +15,10 @@ use crate::summary::either;
 use crate::summary::followed;
 use crate::summary::nothing;
 use crate::summary::repeated;
-use format::bytes::first_arm;
-use format::bytes::record_at;
-use format::bytes::second_arm;
 use model::Array;
+use reading::first_arm;
+use reading::record_at;
+use reading::second_arm;
 
 // A block, and then a branch (kind 6) or a loop with these arms.
 fn with_arms(s: Summary, kind: u8, one: Summary, two: Summary) -> Summary

@@ -1,7 +1,7 @@
 // The answer over the cells of an opened plain plan: cells that no record tells apart share one summary.
 ghost use mathlib.Core.Path.{_≡_};
 ghost use Rattle.model.proofs.Check.{with-cell, over-cells, cell-stop, check};
-ghost use Rattle.format.specs.Bytes.{array-count, record-count};
+ghost use Rattle.reading.specs.Bytes.{array-count, record-count};
 ghost use Rattle.format.specs.Plans.{plan-of};
 ghost use Rattle.format.specs.Inner.Walks.{Plain, Starts};
 ghost use Rattle.checker.specs.Inner.Summaries.{record-of};
@@ -9,11 +9,11 @@ ghost use Rattle.checker.specs.Inner.Walks.{Span, Marked};
 use crate::block::block;
 use crate::summary::NONE;
 use crate::summary::start_stop;
-use format::bytes::record_at;
 use model::Array;
 use model::Cell;
 use model::Record;
 use model::Verdict;
+use reading::record_at;
 
 // How many places there are where cells of a record may begin or end.
 const PLACES: usize = 4097;

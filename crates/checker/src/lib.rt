@@ -1,9 +1,9 @@
 // The check of a plain plan.
 ghost use mathlib.Core.Path.{_≡_};
-ghost use Rattle.format.specs.Opened.{opened};
+ghost use Rattle.format.specs.Opening.{opened};
 ghost use Rattle.checker.specs.Checking.{Checks};
 use cells::answer;
-use format::Opened;
+use contents::Opened;
 use model::Verdict;
 
 mod block;

@@ -7,9 +7,9 @@ use Rattle.model.specs.declared.Verdict.{Verdict}
 use Rattle.model.specs.declared.Verdict.the-variants.{Accepted, Stopped, Refused}
 use Rattle.model.specs.Blocks.{size, Plan}
 use Rattle.model.specs.Expanding.{expansion}
-use Rattle.format.specs.Rows.{row, first}
+use Rattle.model.specs.Rows.{row, first}
 use Rattle.format.specs.Plans.{declared-plan-of}
-use Rattle.format.specs.Files.{plain-file}
+use Rattle.files.specs.Files.{plain-file}
 use Rattle.judge.specs.Judged.{judge-rows}
 
 -- the expansion of the plan that a file is

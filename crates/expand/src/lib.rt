@@ -2,8 +2,8 @@
 ghost use mathlib.Core.Path.{_≡_};
 ghost use Rattle.judge.specs.Judged.{judged};
 ghost use Rattle.expand.specs.Expanded.{expand-answer, expanded};
-use format::bytes::byte;
 use model::Verdict;
+use reading::byte;
 use sizes::body_starts;
 use sizes::pass_sizes;
 use sizes::places;

@@ -2,13 +2,13 @@
 ghost use mathlib.Core.Path.{_≡_};
 ghost use Prim.Native.Nat.{_+_, _≤_, _<_};
 ghost use Rattle.model.specs.Blocks.{size};
-ghost use Rattle.format.specs.Bytes.{body-count, records-in, declarations-in};
+ghost use Rattle.reading.specs.Bytes.{body-count, records-in, declarations-in};
 ghost use Rattle.expand.specs.Inner.Parts.{DeclaredFile, given-by, declared-from, called, record-size, BodyStarts, PassSizes, Places};
-use format::Fields;
-use format::bytes::byte;
-use format::bytes::entry_at;
-use format::bytes::fields_at;
-use format::bytes::u16_at;
+use reading::Fields;
+use reading::byte;
+use reading::entry_at;
+use reading::fields_at;
+use reading::u16_at;
 
 // The first record of each body; the entry after the last has their number.
 pub fn body_starts(plan: &[u8]) -> [u16; 33]

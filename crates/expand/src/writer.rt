@@ -4,19 +4,19 @@ ghost use mathlib.Core.List.{[], _∷_, _++_};
 ghost use Prim.Native.Nat.{_+_, _*_, _≤_, _<_};
 ghost use lib.ListN.{length, take};
 ghost use Rattle.model.specs.Blocks.{size};
-ghost use Rattle.format.specs.Bytes.{body-count, records-in};
-ghost use Rattle.format.specs.Sums.{check-bytes};
-ghost use Rattle.format.specs.Files.{record-bytes, u16-bytes, fields, block-fields};
+ghost use Rattle.reading.specs.Bytes.{body-count, records-in};
+ghost use Rattle.sums.specs.Sums.{check-bytes};
+ghost use Rattle.files.specs.Files.{record-bytes, u16-bytes, fields, block-fields};
 ghost use Rattle.expand.specs.Expanded.{expansion-file};
 ghost use Rattle.expand.specs.Inner.Parts.{DeclaredFile, DeclarationsAt, over, bytes-of, given-by, declared-from, called, record-size, place, piece, pieces, BodyStarts, Places};
 use crate::sizes::declarations_in;
-use format::Fields;
-use format::bytes::byte;
-use format::bytes::entry_at;
-use format::bytes::fields_at;
-use format::bytes::first_arm;
-use format::bytes::second_arm;
-use format::sums::check_sums;
+use reading::Fields;
+use reading::byte;
+use reading::entry_at;
+use reading::fields_at;
+use reading::first_arm;
+use reading::second_arm;
+use sums::check_sums;
 
 // A record.
 pub fn put_record(out: &mut [u8], x: Fields)

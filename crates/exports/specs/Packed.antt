@@ -8,14 +8,14 @@ use Rattle.model.specs.declared.Tally.{Tally}
 use Rattle.model.specs.declared.Verdict.{Verdict}
 use Rattle.model.specs.declared.Verdict.the-variants.{Accepted, Stopped, Refused}
 use Rattle.model.specs.Verdicts.{values-of}
-use Rattle.format.specs.Opened.{opened}
+use Rattle.format.specs.Opening.{opened}
 use Rattle.format.specs.Views.{body-part}
 use Rattle.checker.specs.Checking.{Checks}
 use Rattle.judge.specs.Judged.{judged}
 use Rattle.expand.specs.Expanded.{expand-answer}
 use Rattle.run.specs.declared.End.{End}
 use Rattle.run.specs.Running.{Lent, Runs}
-use Rattle.run.specs.Viewing.{memory-side}
+use Rattle.view.specs.Viewing.{memory-side}
 
 -- number in bits 0 to 15, place or record in 16 to 31, cell in 32 to 47, the file's kind (0 if it does not open) in 48 to 55
 abbrev pub packed : ℕ → Values → ℕ

@@ -139,14 +139,14 @@ pub extern "C" fn plan_memory_view(
 ) -> u64
     ensures { λ r. ⌜ r ≡ packed-memory-view (now (host .entry)) (now (card .entry)) (now (latest .entry)) first end ⌝ }
 {
-    let view = run::view::memory_side(host, card, latest, first, end);
-    let v = view.verdict;
+    let part = view::memory_side(host, card, latest, first, end);
+    let v = part.verdict;
     let values = model::values_of(v, 0);
     pack(
         0,
         Values {
             number: values.number,
-            place: view.side as u16,
+            place: part.side as u16,
             cell: 0,
         },
     )

@@ -11,13 +11,13 @@ use lib.ListN.{length}
 use borrow.Author.Tests.{eq-eqb, ne-eqb, ltb-true, leb-true}
 use Rattle.model.specs.Effects.{Action, read, write, copy, need, mark}
 use Rattle.model.proofs.Booleans.{and-out}
-use Rattle.format.specs.declared.Fields.{Fields}
-use Rattle.format.specs.Bytes.{kind-of, array-count, body-count, length-at, record-count, fields-at}
-use Rattle.format.specs.Opening.{fields-fit, allowed, first-arm, second-arm}
+use Rattle.reading.specs.declared.Fields.{Fields}
+use Rattle.reading.specs.Bytes.{kind-of, array-count, body-count, length-at, record-count, fields-at, first-arm, second-arm}
+use Rattle.records.specs.Records.{fields-fit, allowed}
 use Rattle.format.specs.Plans.{side-of, action-of}
 use Rattle.format.specs.Inner.Walks.{Plain, Walkable}
-use Rattle.format.proofs.Laws.Ranges.{of-range}
-use Rattle.format.proofs.Laws.Fields.{Sizes, fit-cells, fit-array}
+use Rattle.reading.proofs.Ranges.{of-range}
+use Rattle.records.proofs.Fields.{Sizes, fit-cells, fit-array}
 use Rattle.format.proofs.Trees.{no-arms}
 use Rattle.format.proofs.Walking.{good-parts, opened-facts, Steps, steps}
 

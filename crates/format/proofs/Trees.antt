@@ -10,13 +10,13 @@ use lib.Dec.{ltb, eqb}
 use borrow.Author.Tests.{lt-ltb, le-ltb, eq-eqb, ne-eqb}
 use Rattle.model.specs.Blocks.{Block}
 use Rattle.model.specs.Judging.{Body0}
-use Rattle.format.specs.declared.Fields.{Fields}
-use Rattle.format.specs.Bytes.{kind-of, body-count, records-in, declarations-in, sizes-of, first-record, record-count, fields-at}
-use Rattle.format.specs.Opening.{allowed, first-arm, second-arm}
+use Rattle.reading.specs.declared.Fields.{Fields}
+use Rattle.reading.specs.Bytes.{kind-of, body-count, records-in, declarations-in, sizes-of, first-record, record-count, fields-at, first-arm, second-arm}
+use Rattle.records.specs.Records.{allowed}
 use Rattle.format.specs.Plans.{action-of, block-of, body0-of, pass-at, plan-of, declared-plan-of}
 use Rattle.format.specs.Inner.Walks.{Good, Walkable, block-between, body0-between}
-use Rattle.format.proofs.Laws.Ranges.{of-range, out-of-range}
-use Rattle.format.proofs.Laws.Tables.{first-zero, next-record}
+use Rattle.reading.proofs.Ranges.{of-range, out-of-range}
+use Rattle.reading.proofs.Tables.{first-zero, next-record}
 use Rattle.format.proofs.Walking.{Facts, good-parts, steps}
 
 -- what is made of the records r up to `end`: of a branch, a loop and any other record with what is made of its arms and of the rest

@@ -9,18 +9,20 @@ use lib.ListN.{getD}
 use borrow.Author.Tests.{lt-ltb, le-leb}
 use Rattle.model.specs.declared.Verdict.the-variants.{Accepted}
 use Rattle.model.specs.Sides.{first-of}
-use Rattle.format.specs.declared.Fields.{Fields}
-use Rattle.format.specs.declared.Opened.{Opened}
-use Rattle.format.specs.Rows.{first}
-use Rattle.format.specs.Bytes.{array-count, body-count, arrays-of, records-in, declarations-in, first-record, fields-at}
-use Rattle.format.specs.Opening.{fields-fit, first-arm, second-arm, block-rows, record-rows, records-rows, opening}
-use Rattle.format.specs.Opened.{found, found-by, opened}
+use Rattle.reading.specs.declared.Fields.{Fields}
+use Rattle.contents.specs.declared.Opened.{Opened}
+use Rattle.model.specs.Rows.{first}
+use Rattle.reading.specs.Bytes.{array-count, body-count, arrays-of, records-in, declarations-in, first-record, fields-at, first-arm, second-arm}
+use Rattle.records.specs.Records.{fields-fit, block-rows, record-rows, records-rows}
+use Rattle.format.specs.Opening.{opening, opened}
+use Rattle.contents.specs.Found.{found, found-by}
 use Rattle.format.specs.Inner.Walks.{Good, Walkable}
-use Rattle.format.proofs.Laws.Rows.{passed, each-passed}
-use Rattle.format.proofs.Laws.Tables.{getD-table, next-record}
-use Rattle.format.proofs.Laws.Records.{Tests, tests-of}
-use Rattle.format.proofs.Laws.Places.{answer, open-parts}
-use Rattle.format.proofs.Laws.Bounds.{Bounds, bounds-of}
+use Rattle.model.proofs.Rows.{passed, each-passed}
+use Rattle.reading.proofs.Tables.{getD-table, next-record}
+use Rattle.records.proofs.Records.{Tests, tests-of}
+use Rattle.format.proofs.Opening.{open-parts}
+use Rattle.contents.proofs.Places.{answer}
+use Rattle.contents.proofs.Bounds.{Bounds, bounds-of}
 
 -- what `open` gave
 module _ (f : List ℕ) (o : Opened) (e : o ≡ opened f) where

@@ -7,9 +7,8 @@ use Rattle.model.specs.Sides.{Side, host, card, Cells}
 use Rattle.model.specs.Effects.{Action, read, write, copy, need, mark}
 use Rattle.model.specs.Blocks.{Block, Plan}
 use Rattle.model.specs.Judging.{R, W, RW, Declaration, Pass, Body0, DeclaredPlan}
-use Rattle.format.specs.declared.Fields.{Fields}
-use Rattle.format.specs.Bytes.{body-count, table, arrays-of, records-in, declarations-in, first-record, record-count, fields-at}
-use Rattle.format.specs.Opening.{first-arm, second-arm}
+use Rattle.reading.specs.declared.Fields.{Fields}
+use Rattle.reading.specs.Bytes.{body-count, table, arrays-of, records-in, declarations-in, first-record, record-count, fields-at, first-arm, second-arm}
 
 -- "Side 0 is the host, side 1 the card."
 abbrev pub side-of : ℕ → Side

@@ -6,8 +6,8 @@ use lib.Dec.{leb}
 use Rattle.model.specs.declared.Verdict.{Verdict}
 use Rattle.model.specs.declared.Verdict.the-variants.{Accepted, Stopped, Refused}
 use Rattle.format.specs.declared.Part.{Part}
-use Rattle.format.specs.Rows.{row, first}
-use Rattle.format.specs.Bytes.{body-count, records-in, first-record, bodies-at}
+use Rattle.model.specs.Rows.{row, first}
+use Rattle.reading.specs.Bytes.{body-count, records-in, first-record, bodies-at}
 use Rattle.format.specs.Opening.{open-rows}
 
 -- "a companion answer gives its number": the numbers of opening, then "25 no such body"

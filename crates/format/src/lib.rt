@@ -1,41 +1,13 @@
 // The plan file: opening it, and the view of a body.
 ghost use mathlib.Core.Path.{_≡_};
 ghost use Prim.Native.Nat.{_+_, _≤_};
-ghost use Rattle.format.specs.Opened.{opened};
+ghost use Rattle.format.specs.Opening.{opened};
 ghost use Rattle.format.specs.Views.{body-view-answer, body-view, body-part};
+use contents::Opened;
 use contents::nothing_found;
 use contents::outline;
 use model::Verdict;
 use records::all_records;
-
-pub mod bytes;
-mod contents;
-mod records;
-pub mod sums;
-
-// A record's eight bytes.
-pub struct Fields {
-    pub kind: u8,
-    pub side: u8,
-    pub array: u8,
-    pub zero: u8,
-    pub p: u16,
-    pub q: u16,
-}
-
-// What opening gives: the answer, and what was found in a file that opens.
-pub struct Opened {
-    pub verdict: Verdict,
-    pub kind: u8,
-    pub arrays: u8,
-    pub bodies: u8,
-    pub cells: u16,
-    pub records: u16,
-    pub offset: u16,
-    pub array_starts: [u16; 33],
-    pub body_starts: [u16; 33],
-    pub declarations: [u8; 32],
-}
 
 // Opens a plan file of any bytes.
 pub fn open(plan: &[u8]) -> Opened

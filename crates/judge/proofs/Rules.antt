@@ -14,13 +14,13 @@ use Rattle.model.specs.Lists.{All}
 use Rattle.model.specs.Sides.{Side, Cells}
 use Rattle.model.specs.Effects.{copy, need, mark}
 use Rattle.model.specs.Judging.{R, W, RW, Declaration, permits, every, declared-once, Written, Rules, Accepts}
-use Rattle.format.specs.declared.Fields.{Fields}
-use Rattle.format.specs.Rows.{row, first, each}
-use Rattle.format.specs.Bytes.{kind-of, body-count, arrays-of, records-in, declarations-in, first-record, fields-at}
-use Rattle.format.specs.Opening.{between, open-rows, opening}
+use Rattle.reading.specs.declared.Fields.{Fields}
+use Rattle.model.specs.Rows.{row, first, each}
+use Rattle.reading.specs.Bytes.{kind-of, body-count, arrays-of, records-in, declarations-in, first-record, fields-at, between}
+use Rattle.format.specs.Opening.{open-rows, opening}
 use Rattle.format.specs.Plans.{side-of, action-of, declaration-of, pass-at, declared-plan-of}
-use Rattle.format.proofs.Laws.Ranges.{in-range, out-of-range}
-use Rattle.format.proofs.Laws.Rows.{skips, skipped, empty, pass, passed}
+use Rattle.reading.proofs.Ranges.{in-range, out-of-range}
+use Rattle.model.proofs.Rows.{skips, skipped, empty, pass, passed}
 use Rattle.judge.specs.declared.Extent.{Extent}
 use Rattle.judge.specs.Judged.{declared-before, record-rows, w-rows, pass-rows, judge-rows, judged}
 use Rattle.judge.specs.Inner.Passes.{PassAt}

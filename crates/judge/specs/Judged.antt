@@ -8,9 +8,9 @@ use Rattle.model.specs.Lists.{any}
 use Rattle.model.specs.Sides.{Side, Arrays, length-of, first-of}
 use Rattle.model.specs.Blocks.{Block}
 use Rattle.model.specs.Judging.{Declaration, permits, always-writes}
-use Rattle.format.specs.Rows.{Row, row, first, each}
-use Rattle.format.specs.Bytes.{kind-of, body-count, table, arrays-of, records-in, declarations-in, first-record, fields-at}
-use Rattle.format.specs.Opening.{between, open-rows}
+use Rattle.model.specs.Rows.{Row, row, first, each}
+use Rattle.reading.specs.Bytes.{kind-of, body-count, table, arrays-of, records-in, declarations-in, first-record, fields-at, between}
+use Rattle.format.specs.Opening.{open-rows}
 use Rattle.format.specs.Plans.{action-of, declaration-of, pass-at}
 
 -- "11 judge or expand without kind 1"

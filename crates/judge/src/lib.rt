@@ -1,14 +1,14 @@
 // The judge: numbers 11 to 15.
 ghost use mathlib.Core.Path.{_≡_};
-ghost use Rattle.format.specs.Opened.{opened};
+ghost use Rattle.format.specs.Opening.{opened};
 ghost use Rattle.judge.specs.Judged.{judged};
-use format::Opened;
+use contents::Opened;
 use format::open;
 use model::Verdict;
 use passes::all_passes;
 
 mod passes;
-mod records;
+mod permits;
 mod written;
 
 // Where a pass stands: its body's number, its first record, how many declarations it has and how many records with them.

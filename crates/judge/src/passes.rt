@@ -2,17 +2,17 @@
 ghost use mathlib.Core.Path.{_≡_};
 ghost use Prim.Native.Nat.{ℕ, suc, _-_};
 ghost use Rattle.model.specs.declared.Verdict.the-variants.{Accepted};
-ghost use Rattle.format.specs.Rows.{first, each};
-ghost use Rattle.format.specs.Bytes.{kind-of, body-count};
+ghost use Rattle.model.specs.Rows.{first, each};
+ghost use Rattle.reading.specs.Bytes.{kind-of, body-count};
 ghost use Rattle.format.specs.Opening.{opening};
-ghost use Rattle.format.specs.Opened.{found};
+ghost use Rattle.contents.specs.Found.{found};
 ghost use Rattle.judge.specs.Judged.{pass-rows};
 ghost use Rattle.judge.specs.Inner.Passes.{PassAt};
 use crate::Extent;
-use crate::records::declarations;
-use crate::records::uses;
+use crate::permits::declarations;
+use crate::permits::uses;
 use crate::written::unmet;
-use format::Opened;
+use contents::Opened;
 use model::Verdict;
 
 // Numbers 12 to 14 by record, then 15, of one pass; `starts` has the first cell of each array.

@@ -4,19 +4,19 @@ ghost use mathlib.Core.Bool.{_&&_};
 ghost use Prim.Native.Nat.{ℕ, _+_, _-_, _≤_, _<_};
 ghost use lib.Dec.{leb, ltb};
 ghost use lib.ListN.{length, getD};
-ghost use Rattle.format.specs.Rows.{first, each};
-ghost use Rattle.format.specs.Bytes.{declarations-in};
+ghost use Rattle.model.specs.Rows.{first, each};
+ghost use Rattle.reading.specs.Bytes.{declarations-in};
 ghost use Rattle.format.specs.Inner.Walks.{Walkable};
 ghost use Rattle.judge.specs.Judged.{w-rows};
 ghost use Rattle.judge.specs.Inner.Passes.{PassAt, ByArray};
 ghost use Rattle.judge.specs.Inner.Marks.{marked, Adds, all-marked, Tables, hits, always, met};
 use crate::Declared;
 use crate::Extent;
-use format::Fields;
-use format::bytes::fields_at;
-use format::bytes::first_arm;
-use format::bytes::second_arm;
 use model::Verdict;
+use reading::Fields;
+use reading::fields_at;
+use reading::first_arm;
+use reading::second_arm;
 
 // Marks the cells from `from` up to `end`.
 pub fn mark(set: &mut [bool; 4096], from: usize, end: usize)

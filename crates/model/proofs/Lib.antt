@@ -1,5 +1,6 @@
 -- Tests, runs and stamps, and how cells are numbered
 pub mod Booleans
+pub mod Rows
 pub mod Runs
 pub mod Unmet
 pub mod Stamps

@@ -1,5 +1,6 @@
 -- The definitions of document 01 that know no bytes, in its order.
 pub mod Lists
+pub mod Rows
 pub mod Sides
 pub mod Effects
 pub mod Blocks

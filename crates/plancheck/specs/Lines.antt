@@ -6,7 +6,7 @@ use mathlib.Core.List.{List}
 use lib.Dec.{eqb}
 use Rattle.model.specs.declared.Verdict.{Verdict}
 use Rattle.model.specs.Verdicts.{values-of}
-use Rattle.format.specs.Opened.{opened}
+use Rattle.format.specs.Opening.{opened}
 use Rattle.checker.specs.Checking.{Checks}
 use Rattle.judge.specs.Judged.{judged}
 use Rattle.plancheck.specs.declared.Line.{Line}

@@ -14,21 +14,20 @@ use Rattle.model.specs.declared.Verdict.{Verdict}
 use Rattle.model.specs.declared.Verdict.the-variants.{Accepted, Stopped, Refused}
 use Rattle.model.specs.Verdicts.{values-of}
 use Rattle.model.specs.Blocks.{size}
-use Rattle.format.specs.Rows.{Row, row, first}
-use Rattle.format.specs.Bytes.{kind-of, body-count, u16-at, entry-at, records-in, sizes-of, record-count}
-use Rattle.format.specs.Opening.{opening}
-use Rattle.format.specs.Opened.{opened}
+use Rattle.model.specs.Rows.{Row, row, first}
+use Rattle.reading.specs.Bytes.{kind-of, body-count, u16-at, entry-at, records-in, sizes-of, record-count}
+use Rattle.format.specs.Opening.{opening, opened}
 use Rattle.format.specs.Plans.{declared-plan-of}
-use Rattle.format.proofs.Laws.Rows.{skipped, passed, unheld}
-use Rattle.format.proofs.Laws.Tables.{first-zero, next-record, arrays-counted}
+use Rattle.model.proofs.Rows.{skipped, passed, unheld}
+use Rattle.reading.proofs.Tables.{first-zero, next-record, arrays-counted}
 use Rattle.format.proofs.Walking.{opened-facts}
-use Rattle.format.proofs.RoundTrip.{plain-length}
+use Rattle.files.proofs.RoundTrip.{plain-length}
 use Rattle.judge.specs.Judged.{judge-rows, judged}
 use Rattle.expand.specs.Expanded.{expansion-of, expansion-file, expand-answer, expanded}
 use Rattle.expand.proofs.Laws.Answers.{accepted-file}
 use Rattle.expand.proofs.Laws.Files.{arrays-low}
-use Rattle.expand.proofs.Circle.Opens.{expansion-opens}
-use Rattle.expand.proofs.Circle.Writes.{judged-and-small, file-written}
+use Rattle.circle.proofs.Opens.{expansion-opens}
+use Rattle.circle.proofs.Writes.{judged-and-small, file-written}
 use Rattle.planexpand.specs.declared.Expansion.{Expansion}
 use Rattle.planexpand.specs.Expansions.{shown, answer-with-room, ExpansionOf}
 use Rattle.planexpand.specs.Inner.Sizes.{size-by-contents}

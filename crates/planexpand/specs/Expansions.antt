@@ -9,8 +9,8 @@ use Rattle.model.specs.declared.Verdict.{Verdict}
 use Rattle.model.specs.declared.Verdict.the-variants.{Accepted, Stopped, Refused}
 use Rattle.model.specs.Verdicts.{values-of}
 use Rattle.model.specs.Blocks.{size}
-use Rattle.format.specs.Rows.{row, first}
-use Rattle.format.specs.Opened.{opened}
+use Rattle.model.specs.Rows.{row, first}
+use Rattle.format.specs.Opening.{opened}
 use Rattle.judge.specs.Judged.{judge-rows}
 use Rattle.expand.specs.Expanded.{expansion-of, expansion-file, expand-answer, expanded}
 use Rattle.planexpand.specs.declared.Expansion.{Expansion}

@@ -4,12 +4,12 @@ ghost use mathlib.Core.Path.{_≡_};
 ghost use Rattle.planexpand.specs.Expansions.{ExpansionOf};
 ghost use Rattle.planexpand.specs.Inner.Sizes.{size-by-contents};
 use console::ROOM;
-use format::bytes::entry_at;
-use format::bytes::u16_at;
 use libc::STDERR_FILENO;
 use libc::STDOUT_FILENO;
 use model::Values;
 use model::Verdict;
+use reading::entry_at;
+use reading::u16_at;
 
 // The largest expansion's file: 32 arrays, 1,024 records.
 const LARGEST: usize = 8266;

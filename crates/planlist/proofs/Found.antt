@@ -7,12 +7,12 @@ use native.Mathlib.Omega.{arith}
 use lib.ListN.{getD}
 use Rattle.model.specs.declared.Verdict.the-variants.{Accepted}
 use Rattle.model.specs.Sides.{first-of}
-use Rattle.format.specs.declared.Opened.{Opened}
-use Rattle.format.specs.Bytes.{array-count, body-count, length-at, arrays-of, records-in, sizes-of, first-record}
+use Rattle.contents.specs.declared.Opened.{Opened}
+use Rattle.reading.specs.Bytes.{array-count, body-count, length-at, arrays-of, records-in, sizes-of, first-record}
 use Rattle.format.specs.Opening.{opening}
-use Rattle.format.specs.Opened.{found}
+use Rattle.contents.specs.Found.{found}
 use Rattle.format.specs.Inner.Walks.{Walkable}
-use Rattle.format.proofs.Laws.Tables.{next-cell, next-record, first-rises}
+use Rattle.reading.proofs.Tables.{next-cell, next-record, first-rises}
 use Rattle.format.proofs.Walking.{opened-facts, array-start, body-start}
 
 -- entry a of a table of first numbers: it is one of 32, and the next entry is no smaller

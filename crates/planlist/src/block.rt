@@ -5,9 +5,9 @@ use crate::page::Page;
 use crate::records::else_line;
 use crate::records::empty_line;
 use crate::records::record_line;
-use format::bytes::fields_at;
-use format::bytes::first_arm;
-use format::bytes::second_arm;
+use reading::fields_at;
+use reading::first_arm;
+use reading::second_arm;
 
 // The records from `from` up to `end`, and below each one those of its arms, one level further in. The first level is 1, and each further one has
 // its branch or loop before `from`.

@@ -3,14 +3,14 @@ ghost use mathlib.Core.Path.{_≡_};
 ghost use Prim.Native.Nat.{_≤_};
 ghost use Rattle.model.specs.declared.Verdict.the-variants.{Accepted};
 ghost use Rattle.format.specs.Opening.{opening};
-ghost use Rattle.format.specs.Opened.{found};
+ghost use Rattle.contents.specs.Found.{found};
 use crate::block::block;
 use crate::page::Page;
 use crate::page::count;
 use crate::page::numbered;
 use crate::page::range;
 use crate::page::text;
-use format::Opened;
+use contents::Opened;
 
 // The line on the whole.
 fn heading(page: &mut Page, o: Opened) -> usize

@@ -6,7 +6,7 @@ use crate::page::number;
 use crate::page::numbered;
 use crate::page::range;
 use crate::page::text;
-use format::Fields;
+use reading::Fields;
 
 // The name of a kind; a plan that opens has none of the last row.
 fn kind_name(page: &mut Page, at: usize, kind: u8) -> usize

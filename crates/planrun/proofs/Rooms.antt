@@ -9,10 +9,10 @@ use lib.ListN.{length, length-replicate}
 use borrow.Author.Tests.{le-ltb}
 use Rattle.model.specs.declared.Verdict.the-variants.{Accepted}
 use Rattle.model.specs.Sides.{cells}
-use Rattle.format.specs.Rows.{Row, row, first}
-use Rattle.format.specs.Bytes.{kind-of, arrays-of}
+use Rattle.model.specs.Rows.{Row, row, first}
+use Rattle.reading.specs.Bytes.{kind-of, arrays-of}
 use Rattle.format.specs.Opening.{open-rows, opening}
-use Rattle.format.proofs.Laws.Rows.{passed, unheld}
+use Rattle.model.proofs.Rows.{passed, unheld}
 use Rattle.format.proofs.Walking.{opened-facts}
 use Rattle.run.specs.Running.{Lent, run-rows}
 use Rattle.planrun.specs.Reports.{own, answer-with-room}

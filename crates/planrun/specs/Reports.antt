@@ -8,8 +8,8 @@ use lib.ListN.{length, replicate}
 use Rattle.model.specs.declared.Verdict.{Verdict}
 use Rattle.model.specs.declared.Verdict.the-variants.{Accepted, Stopped, Refused}
 use Rattle.model.specs.Verdicts.{values-of}
-use Rattle.format.specs.Rows.{row, first}
-use Rattle.format.specs.Bytes.{kind-of}
+use Rattle.model.specs.Rows.{row, first}
+use Rattle.reading.specs.Bytes.{kind-of}
 use Rattle.format.specs.Opening.{open-rows}
 use Rattle.run.specs.Running.{Lent, lent, run-rows, Runs}
 use Rattle.planrun.specs.declared.report.Ending.{Ending}

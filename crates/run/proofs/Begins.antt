@@ -10,26 +10,27 @@ use borrow.Author.Tests.{eq-eqb, ne-eqb, eqb-true, lt-ltb, le-leb, ltb-false, no
 use Rattle.model.specs.declared.Verdict.{Verdict}
 use Rattle.model.specs.declared.Verdict.the-variants.{Accepted, Refused}
 use Rattle.model.specs.Sides.{host, card, cells}
-use Rattle.model.specs.Blocks.{_then_}
 use Rattle.model.specs.Runs.{begin, here}
 use Rattle.model.proofs.Booleans.{or-none}
 use Rattle.model.proofs.Stamps.{past}
 use Rattle.model.proofs.Through.{then-done}
-use Rattle.format.specs.Rows.{first}
-use Rattle.format.specs.Bytes.{kind-of, arrays-of, array-count, record-count}
+use Rattle.model.specs.Rows.{first}
+use Rattle.reading.specs.Bytes.{kind-of, arrays-of, array-count, record-count}
 use Rattle.format.specs.Opening.{open-rows, opening}
-use Rattle.format.specs.declared.Opened.{Opened}
-use Rattle.format.specs.Opened.{found}
+use Rattle.contents.specs.declared.Opened.{Opened}
+use Rattle.contents.specs.Found.{found}
 use Rattle.format.specs.Plans.{plan-of}
 use Rattle.format.specs.Inner.Walks.{Plain, Starts, block-between}
-use Rattle.format.proofs.Laws.Rows.{holds, skips, skipped, empty, stop, pass, passed}
-use Rattle.format.proofs.Laws.Tables.{arrays-counted}
+use Rattle.model.proofs.Rows.{holds, skips, skipped, empty, stop, pass, passed}
+use Rattle.reading.proofs.Tables.{arrays-counted}
 use Rattle.format.proofs.Walking.{verdict-is, found-is, array-start, Facts, opened-facts}
 use Rattle.format.proofs.Trees.{plain-good, plain-body}
-use Rattle.run.specs.Running.{Lent, choices-of, run-rows}
-use Rattle.run.specs.Inner.Acting.{Changed}
-use Rattle.run.specs.Inner.Standing.{spot, runner, started, first-machine, rest-of, left-of, weight-of, weight, Parts, Reaches, Ready}
-use Rattle.run.proofs.Masks.{none}
+use Rattle.run.specs.Running.{Lent, run-rows}
+use Rattle.machine.specs.Choices.{choices-of}
+use Rattle.acts.specs.Inner.Acting.{Changed}
+use Rattle.machine.specs.Inner.Standing.{spot, runner, started, rest-of, left-of, weight-of, weight, Parts, Reaches}
+use Rattle.run.specs.Inner.Beginning.{first-machine, Ready}
+use Rattle.acts.proofs.Masks.{none}
 
 -- the rows, one after the other
 module _ (f choices : List ℕ) (b : Lent) where

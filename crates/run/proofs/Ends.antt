@@ -12,15 +12,18 @@ use Rattle.model.specs.declared.Verdict.the-variants.{Accepted, Stopped, Refuse
 use Rattle.model.specs.declared.Tally.{Tally}
 use Rattle.model.specs.Sides.{host, card, Arrays, cells}
 use Rattle.model.specs.Runs.{Config, finished, stopped, out-of-choices, Ending, step, Step}
-use Rattle.format.specs.Rows.{first}
-use Rattle.format.specs.Bytes.{table, arrays-of}
+use Rattle.model.specs.Rows.{first}
+use Rattle.reading.specs.Bytes.{table, arrays-of}
 use Rattle.format.specs.Plans.{plan-of}
-use Rattle.format.proofs.Laws.Rows.{never-stops}
-use Rattle.format.proofs.Laws.Tables.{length-table, getD-table}
+use Rattle.model.proofs.Rows.{never-stops}
+use Rattle.reading.proofs.Tables.{length-table, getD-table}
 use Rattle.run.specs.declared.End.{End}
-use Rattle.run.specs.Running.{Lent, lent, choices-of, run-rows, number-of, memory, holding, no-end, end-of, Ran, RunsAs, Runs}
-use Rattle.run.specs.Inner.Acting.{Same}
-use Rattle.run.specs.Inner.Standing.{Runner, end-with, tally-with, Ended, Reaches}
+use Rattle.run.specs.Running.{Lent, lent, run-rows, memory, holding, no-end, end-of, Ran, RunsAs, Runs}
+use Rattle.machine.specs.Choices.{choices-of}
+use Rattle.acts.specs.Memories.{number-of}
+use Rattle.acts.specs.Inner.Acting.{Same}
+use Rattle.machine.specs.Inner.Standing.{Runner, Ended, Reaches}
+use Rattle.run.specs.Inner.Beginning.{end-with, tally-with}
 
 -- a memory whose first n cells are as `held` says and whose others are as they were
 module _ (n : ℕ) (held : ℕ → ℕ) (before after : List ℕ) (room : n ≤ length before) (same : Same n before after) (here : (c : ℕ) → c < n → getD after c 0 ≡ held c) where

@@ -1,5 +1,3 @@
--- The run of a plan file, and the view of a memory.
+-- The run of a plan file.
 pub mod Running
-pub mod Viewing
-pub mod Closing
 pub mod Inner

@@ -1,20 +1,23 @@
 -- The run of a plan file (document 01, 'Running and viewing' and 'Numbers by the place where each is checked').
-use Prim.Native.Nat.{ℕ, zero, suc, _+_, _-_, _*_, _^_}
+use Prim.Native.Nat.{ℕ, _+_, _-_}
 use mathlib.Core.Path.{_≡_}
-use mathlib.Core.Bool.{Bool, cond, not, _||_}
-use mathlib.Core.List.{List, [], _∷_, _++_, map}
+use mathlib.Core.Bool.{Bool, not, _||_}
+use mathlib.Core.List.{List, [], _∷_, _++_}
 use lib.Dec.{ltb, eqb}
 use lib.ListN.{length, drop}
 use Rattle.model.specs.declared.Verdict.{Verdict}
 use Rattle.model.specs.declared.Verdict.the-variants.{Accepted, Stopped, Refused}
 use Rattle.model.specs.declared.Tally.{Tally}
-use Rattle.model.specs.Sides.{host, card, Stamp, never, at, Arrays, cells}
+use Rattle.model.specs.Sides.{host, card, Arrays, cells}
 use Rattle.model.specs.Runs.{Config, Ending, finished, stopped, out-of-choices, Ends, tally}
 use Rattle.model.specs.Verdicts.{stop}
-use Rattle.format.specs.Rows.{Row, row, first}
-use Rattle.format.specs.Bytes.{kind-of, table, arrays-of}
+use Rattle.model.specs.Rows.{Row, row, first}
+use Rattle.reading.specs.Bytes.{kind-of, table, arrays-of}
 use Rattle.format.specs.Opening.{open-rows}
 use Rattle.format.specs.Plans.{plan-of}
+use Rattle.acts.specs.Memories.{number-of}
+use Rattle.acts.specs.Flags.{mask, set-flags}
+use Rattle.machine.specs.Choices.{choices-of}
 use Rattle.run.specs.declared.End.{End}
 
 -- "The run is lent host, card and latest memories, a tally": what they hold before it or after it
@@ -28,10 +31,6 @@ pub record Lent : Type 0 where
 abbrev pub lent : List ℕ → List ℕ → List ℕ → Tally → Lent
 lent h c l t = record { host = h; card = c; latest = l; tally = t }
 
--- "and choice bytes", "nonzero meaning first arm or one more turn"
-abbrev pub choices-of : List ℕ → List Bool
-choices-of bytes = map (λ (b : ℕ). not (eqb b 0)) bytes
-
 -- the numbers of opening, "11 .. check or run without kind 2", "19 a memory shorter than the cells; 20 over 65,536 choices"
 unfoldable pub run-rows : List ℕ → List ℕ → Lent → List Row
 run-rows f choices before =
@@ -40,11 +39,6 @@ run-rows f choices before =
     ∷ row (ltb (length (before .host)) n || ltb (length (before .card)) n || ltb (length (before .latest)) n) 19 0
     ∷ row (ltb 65536 (length choices)) 20 0
     ∷ [])
-
--- "the card holds 2^64 − 1, never": a stamp in a memory
-abbrev pub number-of : Stamp → ℕ
-number-of never = 18446744073709551615
-number-of (at k) = k
 
 -- a memory whose first n cells are as `held` says: "Cells past the plan's are untouched."
 unfoldable pub memory : ℕ → (ℕ → ℕ) → List ℕ → List ℕ
@@ -60,16 +54,6 @@ holding arrays k before =
       latest = memory n (k .state .latest) (before .latest);
       tally = tally arrays (k .history);
     }
-
--- a set of the flags of n arrays: bit a is array a
-unfoldable pub mask : ℕ → (ℕ → Bool) → ℕ
-mask zero flag = 0
-mask (suc n) flag = cond (flag n) 1 0 * 2 ^ n + mask n flag
-
--- how many of them are set
-unfoldable pub set-flags : ℕ → (ℕ → Bool) → ℕ
-set-flags zero flag = 0
-set-flags (suc n) flag = cond (flag n) 1 0 + set-flags n flag
 
 -- an answer without the figures of a run that is done
 abbrev pub no-end : Verdict → End

@@ -1,8 +1,8 @@
-// The run of a plain plan, and the view of a memory.
+// The run of a plain plan.
 ghost use mathlib.Core.Path.{_≡_};
-ghost use Rattle.format.specs.Opened.{opened};
+ghost use Rattle.format.specs.Opening.{opened};
 ghost use Rattle.run.specs.Running.{Runs, lent};
-use format::Opened;
+use contents::Opened;
 use model::Tally;
 use model::Verdict;
 use running::end_of;
@@ -11,13 +11,7 @@ use running::ready;
 use running::run_to_end;
 use running::tally_of;
 
-mod acts;
-mod flags;
-mod machine;
-mod memories;
-mod place;
 mod running;
-pub mod view;
 
 // A run's answer; the figures are those of a run that is done, 0 otherwise.
 pub struct End {

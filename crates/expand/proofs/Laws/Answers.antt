@@ -9,7 +9,7 @@ use Rattle.model.specs.declared.Verdict.{Verdict}
 use Rattle.model.specs.declared.Verdict.the-variants.{Accepted, Stopped, Refused}
 use Rattle.model.specs.Blocks.{size}
 use Rattle.format.specs.Opening.{open-rows, opening}
-use Rattle.format.proofs.Laws.Rows.{holds, skips, skipped, empty, stop, pass, passed}
+use Rattle.model.proofs.Rows.{holds, skips, skipped, empty, stop, pass, passed}
 use Rattle.judge.specs.Judged.{judge-rows, judged}
 use Rattle.expand.specs.Expanded.{expansion-of, expansion-file, expand-answer, written, expanded}
 use Rattle.expand.specs.Inner.Parts.{DeclaredFile, over}

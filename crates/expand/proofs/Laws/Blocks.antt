@@ -8,10 +8,10 @@ use Rattle.model.specs.Sides.{Side}
 use Rattle.model.specs.Blocks.{Block, size, numbered, _then_}
 use Rattle.model.specs.Judging.{Mode, R, W, RW, Declaration}
 use Rattle.model.specs.Expanding.{given, declared}
-use Rattle.format.specs.declared.Fields.{Fields}
-use Rattle.format.specs.Files.{record-bytes, block-fields, joined}
-use Rattle.format.proofs.Files.Holding.{joined-length}
-use Rattle.format.proofs.Files.Records.{fields-count}
+use Rattle.reading.specs.declared.Fields.{Fields}
+use Rattle.files.specs.Files.{record-bytes, block-fields, joined}
+use Rattle.files.proofs.Files.Holding.{joined-length}
+use Rattle.files.proofs.Files.Records.{fields-count}
 use Rattle.expand.specs.Inner.Parts.{over, bytes-of}
 use Rattle.expand.proofs.Laws.Over.{over-none, over-lent}
 

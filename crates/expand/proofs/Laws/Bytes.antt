@@ -6,9 +6,9 @@ use native.Mathlib.Nat.{add-zero, mul-zero, mul-suc}
 use native.Mathlib.Omega.{arith}
 use lib.ListN.{length, take, drop, length-drop}
 use lib.Seq.{take-suc, getD-drop, take-add, drop-drop, drop-at, length-take-le}
-use Rattle.format.specs.declared.Fields.{Fields}
-use Rattle.format.specs.Bytes.{byte-at, u16-at, table, array-count, length-at, arrays-of, bodies-at, fields-at}
-use Rattle.format.specs.Files.{u16-bytes, record-bytes, joined}
+use Rattle.reading.specs.declared.Fields.{Fields}
+use Rattle.reading.specs.Bytes.{byte-at, u16-at, table, array-count, length-at, arrays-of, bodies-at, fields-at}
+use Rattle.files.specs.Files.{u16-bytes, record-bytes, joined}
 use Rattle.expand.specs.Inner.Parts.{bytes-of}
 use Rattle.expand.proofs.Laws.Blocks.{joined-append, bytes-append}
 

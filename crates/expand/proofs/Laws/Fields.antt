@@ -8,13 +8,13 @@ use native.Mathlib.Omega.{arith}
 use lib.Dec.{ltb, leb, eqb}
 use borrow.Author.Tests.{ltb-true, leb-true, eqb-true, eq-eqb, ne-eqb}
 use Rattle.model.proofs.Booleans.{and-out}
-use Rattle.format.specs.declared.Fields.{Fields}
-use Rattle.format.specs.Bytes.{array-count, body-count, length-at}
-use Rattle.format.specs.Opening.{fields-fit, first-arm, second-arm}
+use Rattle.reading.specs.declared.Fields.{Fields}
+use Rattle.reading.specs.Bytes.{array-count, body-count, length-at, first-arm, second-arm}
+use Rattle.records.specs.Records.{fields-fit}
 use Rattle.format.specs.Plans.{side-of, action-of}
-use Rattle.format.specs.Files.{side-number, fields, action-fields}
-use Rattle.format.proofs.Laws.Ranges.{in-range}
-use Rattle.format.proofs.Laws.Fields.{Sizes, fit-cells, fit-array, fit-declaration, fit-branch, fit-loop, fit-call}
+use Rattle.files.specs.Files.{side-number, fields, action-fields}
+use Rattle.reading.proofs.Ranges.{in-range}
+use Rattle.records.proofs.Fields.{Sizes, fit-cells, fit-array, fit-declaration, fit-branch, fit-loop, fit-call}
 
 pub side-again : (s : ℕ) → s < 2 → side-number (side-of s) ≡ s
 side-again s h = elim (ℕᴺ-discrete s 0) [

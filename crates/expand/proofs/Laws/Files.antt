@@ -7,14 +7,14 @@ use lib.ListN.{length, take, drop, length-append, length-drop}
 use lib.Seq.{length-take-le}
 use borrow.Rule.Slice.PartMut.{midOf, putMid}
 use Rattle.model.specs.Sides.{Arrays}
-use Rattle.format.specs.declared.Fields.{Fields}
-use Rattle.format.specs.Bytes.{byte-at, array-count, arrays-of, entry-at, records-in}
-use Rattle.format.specs.Sums.{check-bytes}
+use Rattle.reading.specs.declared.Fields.{Fields}
+use Rattle.reading.specs.Bytes.{byte-at, array-count, arrays-of, entry-at, records-in}
+use Rattle.sums.specs.Sums.{check-bytes}
 use Rattle.format.specs.Plans.{declared-plan-of}
-use Rattle.format.specs.Files.{u16-bytes, record-bytes, Body, joined, front, file}
-use Rattle.format.proofs.Laws.Tables.{arrays-counted}
+use Rattle.files.specs.Files.{u16-bytes, record-bytes, Body, joined, front, file}
+use Rattle.reading.proofs.Tables.{arrays-counted}
 use Rattle.format.proofs.Walking.{opened-facts}
-use Rattle.format.proofs.RoundTrip.{plain-length}
+use Rattle.files.proofs.RoundTrip.{plain-length}
 use Rattle.expand.specs.Expanded.{expansion-of, expansion-file}
 use Rattle.expand.specs.Inner.Parts.{DeclaredFile, over, bytes-of, place, pieces}
 use Rattle.expand.proofs.Laws.Over.{over-lent, over-again, over-front}

@@ -7,7 +7,7 @@ use native.Mathlib.Omega.{arith}
 use lib.ListN.{length, take, drop, getD, set, length-append, length-take, length-drop, drop-of-length-le}
 use lib.Seq.{take-all, take-at, drop-at, drop-drop, drop-cons, take-suc, set-at, sets-eq, length-take-le}
 use borrow.Rule.Slice.PartMut.{midOf, putMid, mid-len}
-use Rattle.format.specs.Sums.{plain-sum, weighted-sum, check-bytes}
+use Rattle.sums.specs.Sums.{plain-sum, weighted-sum, check-bytes}
 use Rattle.expand.specs.Inner.Parts.{over}
 
 pub over-none : (old : List ℕ) → old ≡ over [] old

@@ -13,16 +13,15 @@ use borrow.Author.Tests.{eq-eqb, ne-eqb}
 use Rattle.model.specs.Blocks.{Block, size}
 use Rattle.model.specs.Judging.{R, W, RW}
 use Rattle.model.specs.Expanding.{given}
-use Rattle.format.specs.declared.Fields.{Fields}
-use Rattle.format.specs.Bytes.{byte-at, kind-of, body-count, table, records-in, declarations-in, sizes-of, first-record, record-count, bodies-at, fields-at}
-use Rattle.format.specs.Opening.{first-arm, second-arm}
+use Rattle.reading.specs.declared.Fields.{Fields}
+use Rattle.reading.specs.Bytes.{byte-at, kind-of, body-count, table, records-in, declarations-in, sizes-of, first-record, record-count, bodies-at, fields-at, first-arm, second-arm}
 use Rattle.format.specs.Plans.{side-of, declaration-of, pass-at}
-use Rattle.format.specs.Files.{record-bytes, fields, block-fields}
+use Rattle.files.specs.Files.{record-bytes, fields, block-fields}
 use Rattle.format.specs.Inner.Walks.{block-between}
-use Rattle.format.proofs.Laws.Tables.{length-table, next-record, first-rises}
+use Rattle.reading.proofs.Tables.{length-table, next-record, first-rises}
 use Rattle.format.proofs.Walking.{Facts, opened-facts, good-parts}
 use Rattle.format.proofs.Trees.{block-none, block-branch, block-loop, block-act, walk-of, no-arms, pass-kind, pass-good, pass-declaration, pass-body}
-use Rattle.format.proofs.Files.Records.{fields-count}
+use Rattle.files.proofs.Files.Records.{fields-count}
 use Rattle.expand.specs.Inner.Parts.{DeclaredFile, DeclarationsAt, BodyStarts, over, bytes-of, given-by, declared-from, called}
 use Rattle.expand.proofs.Laws.Over.{over-lent}
 use Rattle.expand.proofs.Laws.Blocks.{same-size, declared-fields, declared-next, bytes-append, bytes-one, bytes-lent, block-bytes-length}

@@ -13,17 +13,17 @@ use borrow.Author.Tests.{eq-eqb, ne-eqb}
 use Rattle.model.specs.Blocks.{Block, size, _then_, numbered}
 use Rattle.model.specs.Judging.{Pass, Body0, no-pass, pass-of}
 use Rattle.model.specs.Expanding.{declared, expand}
-use Rattle.format.specs.declared.Fields.{Fields}
-use Rattle.format.specs.Bytes.{kind-of, body-count, records-in, sizes-of, first-record, fields-at}
-use Rattle.format.specs.Opening.{allowed, first-arm, second-arm}
+use Rattle.reading.specs.declared.Fields.{Fields}
+use Rattle.reading.specs.Bytes.{kind-of, body-count, records-in, sizes-of, first-record, fields-at, first-arm, second-arm}
+use Rattle.records.specs.Records.{allowed}
 use Rattle.format.specs.Plans.{pass-at, declared-plan-of}
-use Rattle.format.specs.Files.{record-bytes, fields, block-fields}
+use Rattle.files.specs.Files.{record-bytes, fields, block-fields}
 use Rattle.format.specs.Inner.Walks.{body0-between}
-use Rattle.format.proofs.Laws.Ranges.{of-range}
-use Rattle.format.proofs.Laws.Tables.{getD-table, first-zero, first-rises, next-record}
+use Rattle.reading.proofs.Ranges.{of-range}
+use Rattle.reading.proofs.Tables.{getD-table, first-zero, first-rises, next-record}
 use Rattle.format.proofs.Walking.{Facts, opened-facts, good-parts}
 use Rattle.format.proofs.Trees.{body0-none, body0-branch, body0-loop, body0-call, walk-of, no-arms, body0-good, body0-body}
-use Rattle.format.proofs.Files.Records.{fields-count}
+use Rattle.files.proofs.Files.Records.{fields-count}
 use Rattle.expand.specs.Expanded.{expansion-of}
 use Rattle.expand.specs.Inner.Parts.{DeclaredFile, over, bytes-of, BodyStarts, PassSizes, Places, called, record-size, place, piece, pieces}
 use Rattle.expand.proofs.Laws.Blocks.{same-size, then-fields, declared-fields, numbered-fields, bytes-one, bytes-lent}

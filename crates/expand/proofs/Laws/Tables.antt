@@ -7,8 +7,8 @@ use native.Mathlib.Numerals.{add-one}
 use native.Mathlib.Omega.{arith}
 use lib.ListN.{length, getD, set}
 use lib.Seq.{getD-set-same, getD-set-other}
-use Rattle.format.specs.Bytes.{u16-at, body-count, entry-at, sizes-of, first-record}
-use Rattle.format.proofs.Laws.Tables.{first-rises, next-record}
+use Rattle.reading.specs.Bytes.{u16-at, body-count, entry-at, sizes-of, first-record}
+use Rattle.reading.proofs.Tables.{first-rises, next-record}
 use Rattle.format.proofs.Walking.{opened-facts}
 use Rattle.expand.specs.Inner.Parts.{DeclaredFile}
 

@@ -7,14 +7,14 @@ use native.Mathlib.Decide.{decLt, decLe}
 use native.Mathlib.Omega.{arith}
 use lib.ListN.{length, length-append}
 use Rattle.model.specs.Blocks.{Block, size}
-use Rattle.format.specs.declared.Fields.{Fields}
-use Rattle.format.specs.Bytes.{fields-at}
-use Rattle.format.specs.Opening.{fields-fit, allowed, first-arm, second-arm}
-use Rattle.format.specs.Files.{fields, block-fields}
+use Rattle.reading.specs.declared.Fields.{Fields}
+use Rattle.reading.specs.Bytes.{fields-at, first-arm, second-arm}
+use Rattle.records.specs.Records.{fields-fit, allowed}
+use Rattle.files.specs.Files.{fields, block-fields}
 use Rattle.format.specs.Inner.Walks.{Good}
 use Rattle.format.proofs.Walking.{good-parts}
 use Rattle.format.proofs.Trees.{no-arms}
-use Rattle.format.proofs.Files.Records.{fields-count}
+use Rattle.files.proofs.Files.Records.{fields-count}
 
 -- where the second arm of record r begins, and what comes after its arms
 abbrev pub second : List ℕ → ℕ → ℕ

@@ -5,8 +5,8 @@ use native.Mathlib.Omega.{arith}
 use lib.ListN.{length, getD}
 use Rattle.model.specs.declared.Verdict.the-variants.{Accepted}
 use Rattle.model.specs.Blocks.{size}
-use Rattle.format.specs.Bytes.{records-in}
-use Rattle.format.proofs.Laws.Rows.{turned}
+use Rattle.reading.specs.Bytes.{records-in}
+use Rattle.model.proofs.Rows.{turned}
 use Rattle.judge.specs.Judged.{judged}
 use Rattle.expand.specs.Expanded.{expansion-of, expansion-file}
 use Rattle.expand.specs.Inner.Parts.{DeclaredFile, place}

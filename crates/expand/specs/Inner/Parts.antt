@@ -8,11 +8,11 @@ use lib.ListN.{length, getD, drop}
 use Rattle.model.specs.declared.Verdict.the-variants.{Accepted}
 use Rattle.model.specs.Blocks.{Block, size}
 use Rattle.model.specs.Expanding.{given, declared}
-use Rattle.format.specs.declared.Fields.{Fields}
-use Rattle.format.specs.Bytes.{kind-of, body-count, table, first-record, fields-at}
-use Rattle.format.specs.Opening.{first-arm, second-arm, opening}
+use Rattle.reading.specs.declared.Fields.{Fields}
+use Rattle.reading.specs.Bytes.{kind-of, body-count, table, first-record, fields-at, first-arm, second-arm}
+use Rattle.format.specs.Opening.{opening}
 use Rattle.format.specs.Plans.{declaration-of, pass-at}
-use Rattle.format.specs.Files.{record-bytes, fields, block-fields, joined}
+use Rattle.files.specs.Files.{record-bytes, fields, block-fields, joined}
 
 -- a file that opens as a declared plan
 pub record DeclaredFile (f : List ℕ) : Type 0 where

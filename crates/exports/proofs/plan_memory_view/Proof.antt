@@ -7,7 +7,7 @@ use Rattle.exports.proofs.plan_memory_view.Reads as reads
 use Rattle.exports.proofs.plan_memory_view.Lts as lts
 use Rattle.exports.proofs.pack.Reads as pack-reads
 use Rattle.model.proofs.values_of.Reads as values-of-reads
-use Rattle.run.proofs.view.memory_side.Reads as memory-side-reads
+use Rattle.view.proofs.memory_side.Reads as memory-side-reads
 
 memory-side-requires : tie.Need-memory-side-requires
 memory-side-requires c κs = search needs

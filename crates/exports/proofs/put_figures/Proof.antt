@@ -1,5 +1,5 @@
 -- `put_figures` stores the figures of a run that is done.
-use Rattle.format.proofs.Laws.Rows.{turned}
+use Rattle.model.proofs.Rows.{turned}
 use Rattle.exports.proofs.Figures.{figures-kept, figures-put}
 use borrow.Author.Needs.{needs}
 use Rattle.exports.proofs.put_figures.Statement.{statement}

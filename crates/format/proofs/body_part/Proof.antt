@@ -1,11 +1,11 @@
 -- `format::body_part` says where the bytes of a body stand, or that there are none.
 use mathlib.Core.Path.{_≡_, refl, sym, ap, _∙_}
 use Rattle.model.specs.declared.Verdict.the-variants.{Accepted}
-use Rattle.format.specs.Bytes.{body-count}
+use Rattle.reading.specs.Bytes.{body-count}
 use Rattle.format.specs.Opening.{opening}
-use Rattle.format.specs.Opened.{found}
-use Rattle.format.proofs.Laws.Rows.{refused, turned}
-use Rattle.format.proofs.Laws.Views.{view-unopened, view-none, part-none, Range, body-range, part-there}
+use Rattle.contents.specs.Found.{found}
+use Rattle.model.proofs.Rows.{refused, turned}
+use Rattle.format.proofs.Views.{view-unopened, view-none, part-none, Range, body-range, part-there}
 use Rattle.format.proofs.Walking.{verdict-is, found-is}
 use Prim.Native.Nat.{_+_, _<_}
 use native.Mathlib.Omega.{arith}

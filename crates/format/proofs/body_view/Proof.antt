@@ -2,7 +2,7 @@
 use mathlib.Core.Path.{_≡_}
 use Prim.Native.Nat.{_+_, _-_}
 use native.Mathlib.Omega.{arith}
-use Rattle.format.proofs.Laws.Views.{part-view}
+use Rattle.format.proofs.Views.{part-view}
 use borrow.Author.Needs.{needs}
 use Rattle.format.proofs.body_view.Statement.{statement}
 use Rattle.format.proofs.body_view.Tie as tie

@@ -1,6 +1,6 @@
 -- `format::body_view_answer` answers an opening's number, or 25.
 use mathlib.Core.Path.{ap, _∙_}
-use Rattle.format.proofs.Laws.Views.{part-answer}
+use Rattle.format.proofs.Views.{part-answer}
 use borrow.Author.Needs.{needs}
 use Rattle.format.proofs.body_view_answer.Statement.{statement}
 use Rattle.format.proofs.body_view_answer.Tie as tie

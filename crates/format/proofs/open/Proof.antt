@@ -1,12 +1,14 @@
 -- `format::open` opens a plan file: its whole result is the definition's.
 use mathlib.Core.Path.{_≡_, refl, sym, ap, _∙_}
 use Rattle.model.specs.declared.Verdict.the-variants.{Accepted}
-use Rattle.format.specs.Rows.{first}
-use Rattle.format.specs.Opened.{found-by, opened}
-use Rattle.format.specs.Inner.Front.{front-rows}
-use Rattle.format.proofs.Laws.Rows.{turned}
-use Rattle.format.proofs.Laws.Places.{open-front, open-records, nothing, answer}
-use Rattle.format.proofs.Laws.Bounds.{bounds-of}
+use Rattle.model.specs.Rows.{first}
+use Rattle.contents.specs.Found.{found-by}
+use Rattle.format.specs.Opening.{opened}
+use Rattle.contents.specs.Contents.{front-rows}
+use Rattle.model.proofs.Rows.{turned}
+use Rattle.format.proofs.Opening.{open-front, open-records}
+use Rattle.contents.proofs.Places.{nothing, answer}
+use Rattle.contents.proofs.Bounds.{bounds-of}
 use borrow.Author.Needs.{needs}
 use Rattle.format.proofs.open.Statement.{statement}
 use Rattle.format.proofs.open.Tie as tie

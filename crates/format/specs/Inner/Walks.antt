@@ -7,9 +7,10 @@ use Rattle.model.specs.declared.Verdict.the-variants.{Accepted}
 use Rattle.model.specs.Sides.{first-of}
 use Rattle.model.specs.Blocks.{Block}
 use Rattle.model.specs.Judging.{Body0}
-use Rattle.format.specs.Rows.{first}
-use Rattle.format.specs.Bytes.{kind-of, array-count, arrays-of, bodies-at, fields-at}
-use Rattle.format.specs.Opening.{block-rows, opening}
+use Rattle.model.specs.Rows.{first}
+use Rattle.reading.specs.Bytes.{kind-of, array-count, arrays-of, bodies-at, fields-at}
+use Rattle.records.specs.Records.{block-rows}
+use Rattle.format.specs.Opening.{opening}
 use Rattle.format.specs.Plans.{block-of, body0-of}
 
 -- the file opens and its plan is plain; `bodies` is where its bodies begin

@@ -15,16 +15,15 @@ use Rattle.model.specs.Lists.{any}
 use Rattle.model.specs.Sides.{is}
 use Rattle.model.specs.Judging.{Mode, R, W, RW, reads, writes, Declaration, declares, permits}
 use Rattle.model.proofs.Booleans.{any-append}
-use Rattle.format.specs.declared.Fields.{Fields}
-use Rattle.format.specs.Rows.{row, first}
-use Rattle.format.specs.Bytes.{table, declarations-in, fields-at}
-use Rattle.format.specs.Opening.{between}
+use Rattle.reading.specs.declared.Fields.{Fields}
+use Rattle.model.specs.Rows.{row, first}
+use Rattle.reading.specs.Bytes.{table, declarations-in, fields-at, between}
 use Rattle.format.specs.Plans.{side-of, action-of, declaration-of, pass-at}
-use Rattle.format.specs.Opened.{found}
+use Rattle.contents.specs.Found.{found}
 use Rattle.format.proofs.Walking.{array-start}
-use Rattle.format.proofs.Laws.Ranges.{out-of-range}
-use Rattle.format.proofs.Laws.Rows.{holds, skips, skipped, empty, each-passed}
-use Rattle.format.proofs.Laws.Tables.{getD-table, set-table}
+use Rattle.reading.proofs.Ranges.{out-of-range}
+use Rattle.model.proofs.Rows.{holds, skips, skipped, empty, each-passed}
+use Rattle.reading.proofs.Tables.{getD-table, set-table}
 use Rattle.judge.specs.declared.Declared.{Declared}
 use Rattle.judge.specs.declared.Extent.{Extent}
 use Rattle.judge.specs.Judged.{declared-before, record-rows}

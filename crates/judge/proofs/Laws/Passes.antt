@@ -9,13 +9,13 @@ use lib.ListN.{getD}
 use borrow.Author.Tests.{eq-eqb, ne-eqb}
 use Rattle.model.specs.declared.Verdict.{Verdict}
 use Rattle.model.specs.declared.Verdict.the-variants.{Accepted, Refused}
-use Rattle.format.specs.declared.Opened.{Opened}
-use Rattle.format.specs.Rows.{Row, first, each}
-use Rattle.format.specs.Bytes.{kind-of, body-count, records-in, declarations-in, first-record}
+use Rattle.contents.specs.declared.Opened.{Opened}
+use Rattle.model.specs.Rows.{Row, first, each}
+use Rattle.reading.specs.Bytes.{kind-of, body-count, records-in, declarations-in, first-record}
 use Rattle.format.specs.Opening.{open-rows, opening}
-use Rattle.format.specs.Opened.{found}
-use Rattle.format.proofs.Laws.Rows.{holds, skips, stop, pass, each-more, each-stop}
-use Rattle.format.proofs.Laws.Tables.{next-record}
+use Rattle.contents.specs.Found.{found}
+use Rattle.model.proofs.Rows.{holds, skips, stop, pass, each-more, each-stop}
+use Rattle.reading.proofs.Tables.{next-record}
 use Rattle.format.proofs.Walking.{opened-facts, body-start, declarations-at}
 use Rattle.judge.specs.declared.Extent.{Extent}
 use Rattle.judge.specs.Judged.{record-rows, w-rows, pass-rows, judge-rows, judged}

@@ -10,14 +10,14 @@ use lib.Dec.{ltb, eqb}
 use borrow.Author.Tests.{ltb-true, leb-true, eqb-true, le-ltb, ne-eqb}
 use Rattle.model.proofs.Booleans.{and-out}
 use Rattle.model.specs.Sides.{is}
-use Rattle.format.specs.declared.Fields.{Fields}
-use Rattle.format.specs.Bytes.{kind-of, array-count, body-count, length-at, declarations-in, sizes-of, first-record, fields-at}
-use Rattle.format.specs.Opening.{fields-fit, allowed, first-arm, second-arm}
+use Rattle.reading.specs.declared.Fields.{Fields}
+use Rattle.reading.specs.Bytes.{kind-of, array-count, body-count, length-at, declarations-in, sizes-of, first-record, fields-at, first-arm, second-arm}
+use Rattle.records.specs.Records.{fields-fit, allowed}
 use Rattle.format.specs.Inner.Walks.{Good, Walkable, block-between}
 use Rattle.format.specs.Plans.{side-of, pass-at}
-use Rattle.format.proofs.Laws.Ranges.{of-range}
-use Rattle.format.proofs.Laws.Tables.{first-rises, next-record}
-use Rattle.format.proofs.Laws.Fields.{Sizes, fit-cells, fit-array, fit-declaration, fit-branch, fit-loop}
+use Rattle.reading.proofs.Ranges.{of-range}
+use Rattle.reading.proofs.Tables.{first-rises, next-record}
+use Rattle.records.proofs.Fields.{Sizes, fit-cells, fit-array, fit-declaration, fit-branch, fit-loop}
 use Rattle.format.proofs.Walking.{Facts, opened-facts, good-parts}
 use Rattle.format.proofs.Trees.{pass-declaration, pass-walk, pass-body}
 use Rattle.judge.specs.declared.Extent.{Extent}

@@ -12,13 +12,12 @@ use Rattle.model.specs.Sides.{Side, is, Arrays, length-of, array-of, Cells, wit
 use Rattle.model.specs.Effects.{read, copy, need, mark}
 use Rattle.model.specs.Judging.{writes-cell}
 use Rattle.model.proofs.Numbering.{array-ends, within-array, within-range}
-use Rattle.format.specs.declared.Fields.{Fields}
-use Rattle.format.specs.Bytes.{array-count, arrays-of, fields-at}
-use Rattle.format.specs.Opening.{first-arm, second-arm}
+use Rattle.reading.specs.declared.Fields.{Fields}
+use Rattle.reading.specs.Bytes.{array-count, arrays-of, fields-at, first-arm, second-arm}
 use Rattle.format.specs.Plans.{side-of, action-of}
 use Rattle.format.specs.Inner.Walks.{Walkable}
 use Rattle.format.proofs.Walking.{steps}
-use Rattle.format.proofs.Laws.Tables.{array-length}
+use Rattle.reading.proofs.Tables.{array-length}
 use Rattle.format.proofs.Trees.{block-none, block-branch, block-loop, block-act}
 use Rattle.judge.specs.Inner.Marks.{marked, Adds, Tables, hits, always}
 use Rattle.judge.proofs.Laws.Records.{same-side, cells-fit}

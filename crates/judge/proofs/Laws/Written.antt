@@ -12,12 +12,12 @@ use Rattle.model.specs.Sides.{Side, Arrays, length-of, first-of}
 use Rattle.model.specs.Blocks.{Block}
 use Rattle.model.specs.Judging.{always-writes}
 use Rattle.model.proofs.Numbering.{array-from, array-ends}
-use Rattle.format.specs.declared.Fields.{Fields}
-use Rattle.format.specs.Rows.{row, first}
-use Rattle.format.specs.Bytes.{array-count, arrays-of, fields-at}
+use Rattle.reading.specs.declared.Fields.{Fields}
+use Rattle.model.specs.Rows.{row, first}
+use Rattle.reading.specs.Bytes.{array-count, arrays-of, fields-at}
 use Rattle.format.specs.Plans.{side-of, declaration-of, pass-at}
-use Rattle.format.proofs.Laws.Rows.{holds, skips, empty}
-use Rattle.format.proofs.Laws.Tables.{first-more}
+use Rattle.model.proofs.Rows.{holds, skips, empty}
+use Rattle.reading.proofs.Tables.{first-more}
 use Rattle.judge.specs.declared.Declared.{Declared}
 use Rattle.judge.specs.declared.Extent.{Extent}
 use Rattle.judge.specs.Judged.{all-written, w-rows}

@@ -11,9 +11,8 @@ use borrow.Author.Tests.{ne-eqb}
 use Rattle.model.specs.Effects.{Action}
 use Rattle.model.specs.Judging.{every}
 use Rattle.model.proofs.Booleans.{and-out, and-in}
-use Rattle.format.specs.declared.Fields.{Fields}
-use Rattle.format.specs.Bytes.{fields-at}
-use Rattle.format.specs.Opening.{first-arm, second-arm}
+use Rattle.reading.specs.declared.Fields.{Fields}
+use Rattle.reading.specs.Bytes.{fields-at, first-arm, second-arm}
 use Rattle.format.specs.Plans.{action-of}
 use Rattle.format.specs.Inner.Walks.{Walkable, block-between}
 use Rattle.format.proofs.Walking.{steps}

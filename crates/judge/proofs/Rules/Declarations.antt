@@ -10,7 +10,7 @@ use borrow.Author.Tests.{not-true}
 use Rattle.model.specs.Lists.{any}
 use Rattle.model.specs.Judging.{Declaration, declared-once}
 use Rattle.model.proofs.Booleans.{and-out, and-in, eqb-swap, any-append}
-use Rattle.format.specs.Bytes.{table}
+use Rattle.reading.specs.Bytes.{table}
 use Rattle.judge.proofs.Rules.Tables.{up-to}
 
 abbrev same : Declaration → Declaration → Bool

@@ -8,9 +8,9 @@ use native.Mathlib.Numerals.{add-one}
 use native.Mathlib.Omega.{arith}
 use Rattle.model.specs.declared.Verdict.the-variants.{Accepted}
 use Rattle.model.specs.Lists.{All}
-use Rattle.format.specs.Rows.{Row, first, each}
-use Rattle.format.specs.Bytes.{table}
-use Rattle.format.proofs.Laws.Rows.{each-none, each-more, each-passed}
+use Rattle.model.specs.Rows.{Row, first, each}
+use Rattle.reading.specs.Bytes.{table}
+use Rattle.model.proofs.Rows.{each-none, each-more, each-passed}
 
 -- what holds of each number below n, and of n
 pub up-to : (P : ℕ → Type 0) (n : ℕ) → ((i : ℕ) → i < n → P i) → P n → (i : ℕ) → i < suc n → P i

@@ -1,10 +1,10 @@
 -- `judge::judge_opened` answers as the definition: opening's answer, 11, then the passes.
 use mathlib.Core.Path.{_≡_, sym, ap, _∙_}
 use Rattle.model.specs.declared.Verdict.the-variants.{Accepted}
-use Rattle.format.specs.Bytes.{kind-of}
+use Rattle.reading.specs.Bytes.{kind-of}
 use Rattle.format.specs.Opening.{opening}
-use Rattle.format.specs.Opened.{found}
-use Rattle.format.proofs.Laws.Rows.{turned}
+use Rattle.contents.specs.Found.{found}
+use Rattle.model.proofs.Rows.{turned}
 use Rattle.format.proofs.Walking.{verdict-is, found-is}
 use Rattle.judge.proofs.Laws.Passes.{judged-opening, judged-plain, judged-passes}
 use borrow.Author.Needs.{needs}

@@ -7,8 +7,8 @@ use lib.Dec.{leb, ltb, eqb}
 use lib.ListN.{length, getD}
 use Rattle.model.specs.Sides.{cells, first-of, array-of}
 use Rattle.model.specs.Judging.{always-writes}
-use Rattle.format.specs.declared.Fields.{Fields}
-use Rattle.format.specs.Bytes.{array-count, arrays-of}
+use Rattle.reading.specs.declared.Fields.{Fields}
+use Rattle.reading.specs.Bytes.{array-count, arrays-of}
 use Rattle.format.specs.Plans.{side-of}
 use Rattle.format.specs.Inner.Walks.{block-between}
 

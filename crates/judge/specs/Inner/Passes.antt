@@ -5,10 +5,10 @@ use mathlib.Core.Bool.{Bool, cond, not, _&&_, _||_}
 use mathlib.Core.List.{List, [], _∷_}
 use lib.Dec.{eqb}
 use Rattle.model.specs.declared.Verdict.the-variants.{Accepted}
-use Rattle.format.specs.declared.Fields.{Fields}
-use Rattle.format.specs.Rows.{Row, row, first, each}
-use Rattle.format.specs.Bytes.{kind-of, body-count, table, records-in, declarations-in, first-record, fields-at}
-use Rattle.format.specs.Opening.{between, opening}
+use Rattle.reading.specs.declared.Fields.{Fields}
+use Rattle.model.specs.Rows.{Row, row, first, each}
+use Rattle.reading.specs.Bytes.{kind-of, body-count, table, records-in, declarations-in, first-record, fields-at, between}
+use Rattle.format.specs.Opening.{opening}
 use Rattle.judge.specs.declared.Declared.{Declared}
 use Rattle.judge.specs.declared.Extent.{Extent}
 use Rattle.judge.specs.Judged.{record-rows}

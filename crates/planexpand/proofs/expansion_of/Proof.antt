@@ -1,7 +1,7 @@
 -- `planexpand::expansion_of` gives the expander's answer, its output, and how many bytes of that are the expansion's file.
 use mathlib.Core.Path.{refl, ap}
 use native.Mathlib.Omega.{arith}
-use Rattle.format.proofs.Laws.Rows.{turned}
+use Rattle.model.proofs.Rows.{turned}
 use Rattle.planexpand.proofs.Rooms.{refusal, written-out}
 use borrow.Author.Needs.{needs}
 use Rattle.planexpand.proofs.expansion_of.Statement.{statement}

@@ -1,7 +1,7 @@
 -- No promise of an entry point rests on this text: how long a written file is.
 use Prim.Native.Nat.{ℕ, _+_, _*_}
 use mathlib.Core.List.{List}
-use Rattle.format.specs.Bytes.{entry-at, records-in}
+use Rattle.reading.specs.Bytes.{entry-at, records-in}
 
 -- the length of a plain plan's file, by the contents that stand at the front of the output
 unfoldable pub size-by-contents : List ℕ → ℕ

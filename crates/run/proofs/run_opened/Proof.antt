@@ -1,8 +1,8 @@
 -- `run_opened` meets the promise of the run, with the tally by value.
 use mathlib.Core.Path.{_≡_, sym, _∙_}
 use Rattle.model.specs.declared.Verdict.the-variants.{Accepted}
-use Rattle.format.specs.Rows.{first}
-use Rattle.format.proofs.Laws.Rows.{turned}
+use Rattle.model.specs.Rows.{first}
+use Rattle.model.proofs.Rows.{turned}
 use Rattle.run.specs.Running.{lent, run-rows}
 use Rattle.run.proofs.Begins.{begins}
 use Rattle.run.proofs.Ends.{ran, runs-refused, runs-ran}

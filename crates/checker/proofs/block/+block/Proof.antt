@@ -6,7 +6,7 @@ use mathlib.Core.Logic.{⊎-elim}
 use native.Mathlib.Omega.{arith}
 use Prim.Native.Nat.{ℕ, _+_, _-_, _≤_, _<_}
 use Rattle.model.specs.Sides.{first-of}
-use Rattle.format.specs.Bytes.{arrays-of}
+use Rattle.reading.specs.Bytes.{arrays-of}
 use Rattle.format.specs.Inner.Walks.{Walkable}
 use Rattle.checker.specs.Inner.Summaries.{reading}
 use Rattle.format.proofs.Acts.{record-inside, Here, here, Arms, arms, after-act}
@@ -17,12 +17,12 @@ use Rattle.checker.proofs.block.block.Reads as block
 use Rattle.checker.proofs.block.block.Kinds as block-kinds
 use Rattle.checker.proofs.block.+block.Lts-block as block-lts
 use Rattle.checker.proofs.block.with_arms.Reads as with-arms-reads
-use Rattle.format.proofs.bytes.record_at.Reads as record-at-reads
+use Rattle.reading.proofs.record_at.Reads as record-at-reads
 use Rattle.checker.proofs.fields.touches.Reads as touches-reads
 use Rattle.checker.proofs.summary.acted.Reads as acted-reads
 use Rattle.checker.proofs.summary.nothing.Reads as nothing-reads
-use Rattle.format.proofs.bytes.first_arm.Reads as first-arm-reads
-use Rattle.format.proofs.bytes.second_arm.Reads as second-arm-reads
+use Rattle.reading.proofs.first_arm.Reads as first-arm-reads
+use Rattle.reading.proofs.second_arm.Reads as second-arm-reads
 use Rattle.checker.proofs.block.+block.{statement}
 use Rattle.checker.proofs.block.+block.Tie.{close}
 

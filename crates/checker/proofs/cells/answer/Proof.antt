@@ -4,9 +4,9 @@ use mathlib.Core.Path.{_≡_}
 use native.Mathlib.Omega.{arith}
 use Rattle.model.specs.Sides.{first-of}
 use Rattle.model.proofs.Check.{over-cells, cell-stop, check}
-use Rattle.format.specs.Bytes.{array-count, arrays-of}
+use Rattle.reading.specs.Bytes.{array-count, arrays-of}
 use Rattle.format.specs.Plans.{plan-of}
-use Rattle.format.proofs.Laws.Tables.{first-zero, all-cells}
+use Rattle.reading.proofs.Tables.{first-zero, all-cells}
 use Rattle.format.proofs.Walking.{opened-facts}
 use Rattle.checker.proofs.Answers.{start-low}
 use borrow.Author.Needs.{needs}

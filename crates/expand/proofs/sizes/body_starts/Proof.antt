@@ -3,8 +3,8 @@ use mathlib.Core.Path.{_≡_, sym}
 use Prim.Native.Nat.{ℕ, _+_, _-_, _≤_, _<_}
 use native.Mathlib.Omega.{arith}
 use lib.ListN.{length, getD, length-set}
-use Rattle.format.specs.Bytes.{body-count, first-record}
-use Rattle.format.proofs.Laws.Tables.{first-zero}
+use Rattle.reading.specs.Bytes.{body-count, first-record}
+use Rattle.reading.proofs.Tables.{first-zero}
 use Rattle.expand.proofs.Laws.Tables.{stored, start-more, start-low, bodies-low}
 use borrow.Author.Needs.{needs}
 use Rattle.expand.proofs.sizes.body_starts.Statement.{statement}

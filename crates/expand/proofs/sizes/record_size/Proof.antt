@@ -2,7 +2,7 @@
 use native.Mathlib.Omega.{arith}
 use mathlib.Core.Path.{sym, ap, _∙_}
 use Rattle.expand.proofs.Laws.Pieces.{record-one, body0-few, size-read}
-use Rattle.format.specs.declared.Fields.{Fields}
+use Rattle.reading.specs.declared.Fields.{Fields}
 use borrow.Author.Needs.{needs}
 use Rattle.expand.proofs.sizes.record_size.Statement.{statement}
 use Rattle.expand.proofs.sizes.record_size.Tie as tie

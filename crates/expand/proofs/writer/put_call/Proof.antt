@@ -4,7 +4,7 @@ use native.Mathlib.Omega.{arith}
 use Prim.Native.Nat.{_+_, _*_, _-_, _≤_}
 use lib.ListN.{length, getD}
 use Rattle.model.specs.Blocks.{size}
-use Rattle.format.specs.Bytes.{bodies-at}
+use Rattle.reading.specs.Bytes.{bodies-at}
 use Rattle.expand.specs.Inner.Parts.{declared-from}
 use Rattle.expand.proofs.Laws.Over.{lent-room, part-fits}
 use Rattle.expand.proofs.Laws.Blocks.{block-bytes-length}

@@ -4,7 +4,7 @@ use Prim.Native.Nat.{_+_, _*_, _-_, _≤_}
 use native.Mathlib.Omega.{arith}
 use lib.ListN.{length}
 use Rattle.model.specs.Blocks.{size}
-use Rattle.format.specs.Files.{block-fields}
+use Rattle.files.specs.Files.{block-fields}
 use Rattle.expand.specs.Inner.Parts.{over, bytes-of, given-by, declared-from}
 use Rattle.expand.proofs.Laws.Over.{lent-room}
 use Rattle.expand.proofs.Laws.Blocks.{same-size, bytes-none, block-bytes-length}

@@ -3,7 +3,7 @@ use mathlib.Core.List.{[], _∷_, _++_}
 use native.Mathlib.Omega.{arith}
 use lib.ListN.{length-set}
 use lib.Seq.{sets-eq}
-use Rattle.format.specs.Files.{u16-bytes}
+use Rattle.files.specs.Files.{u16-bytes}
 use Rattle.expand.specs.Inner.Parts.{over}
 use borrow.Author.Needs.{needs}
 use Rattle.expand.proofs.writer.put_entry.Statement.{statement}

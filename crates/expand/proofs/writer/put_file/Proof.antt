@@ -3,7 +3,7 @@ use mathlib.Core.Path.{_≡_, ap, _∙_}
 use Prim.Native.Nat.{_+_, _*_, _-_, _≤_}
 use native.Mathlib.Omega.{arith}
 use lib.ListN.{length, getD}
-use Rattle.format.specs.Bytes.{array-count, records-in}
+use Rattle.reading.specs.Bytes.{array-count, records-in}
 use Rattle.expand.specs.Inner.Parts.{place}
 use Rattle.expand.proofs.Laws.Over.{lent-room, part-fits}
 use Rattle.expand.proofs.Laws.Pieces.{body0-few}

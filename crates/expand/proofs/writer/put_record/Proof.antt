@@ -2,7 +2,7 @@
 use native.Mathlib.Omega.{arith}
 use lib.ListN.{length-set}
 use lib.Seq.{sets-eq}
-use Rattle.format.specs.Files.{record-bytes}
+use Rattle.files.specs.Files.{record-bytes}
 use Rattle.expand.specs.Inner.Parts.{over}
 use borrow.Author.Needs.{needs}
 use Rattle.expand.proofs.writer.put_record.Statement.{statement}

@@ -4,9 +4,9 @@ use Prim.Native.Nat.{_+_, _-_, _≤_, _<_}
 use native.Mathlib.Omega.{arith}
 use lib.ListN.{getD}
 use Rattle.model.specs.declared.Verdict.the-variants.{Accepted}
-use Rattle.format.specs.Rows.{first}
-use Rattle.format.specs.Bytes.{body-count}
-use Rattle.format.proofs.Laws.Rows.{turned, each-none}
+use Rattle.model.specs.Rows.{first}
+use Rattle.reading.specs.Bytes.{body-count}
+use Rattle.model.proofs.Rows.{turned, each-none}
 use Rattle.format.proofs.Walking.{opened-facts}
 use Rattle.judge.specs.Inner.Passes.{PassAt}
 use Rattle.judge.proofs.Laws.Records.{declared-low, records-low}

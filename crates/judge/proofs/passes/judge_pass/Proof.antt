@@ -1,6 +1,6 @@
 -- `judge::passes::judge_pass` answers 12 to 14 by record, then 15, of one pass.
 use mathlib.Core.Path.{sym, _∙_}
-use Rattle.format.proofs.Laws.Rows.{turned}
+use Rattle.model.proofs.Rows.{turned}
 use Rattle.judge.proofs.Laws.Declarations.{tables}
 use Rattle.judge.proofs.Laws.Passes.{pass-twice, pass-used, pass-unmet}
 use borrow.Author.Needs.{needs}

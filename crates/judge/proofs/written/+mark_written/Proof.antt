@@ -16,9 +16,9 @@ use borrow.Fn.PlainCycle.{Measures, is, falls, and}
 use Rattle.judge.proofs.written.mark_written.Reads as mark-written
 use Rattle.judge.proofs.written.mark_written.Kinds as mark-written-kinds
 use Rattle.judge.proofs.written.+mark_written.Lts-mark_written as mark-written-lts
-use Rattle.format.proofs.bytes.fields_at.Reads as fields-at-reads
-use Rattle.format.proofs.bytes.first_arm.Reads as first-arm-reads
-use Rattle.format.proofs.bytes.second_arm.Reads as second-arm-reads
+use Rattle.reading.proofs.fields_at.Reads as fields-at-reads
+use Rattle.reading.proofs.first_arm.Reads as first-arm-reads
+use Rattle.reading.proofs.second_arm.Reads as second-arm-reads
 use Rattle.judge.proofs.written.mark_both.Reads as mark-both-reads
 use Rattle.judge.proofs.written.mark_record.Reads as mark-record-reads
 use Rattle.judge.proofs.written.+mark_written.{statement}

@@ -3,8 +3,8 @@ use mathlib.Core.Path.{_≡_, refl}
 use Prim.Native.Nat.{_-_, _≤_}
 use native.Mathlib.Omega.{arith}
 use Rattle.model.specs.declared.Verdict.the-variants.{Accepted}
-use Rattle.format.specs.Rows.{first, each}
-use Rattle.format.proofs.Laws.Rows.{refused, each-none, each-more, each-stop}
+use Rattle.model.specs.Rows.{first, each}
+use Rattle.model.proofs.Rows.{refused, each-none, each-more, each-stop}
 use Rattle.judge.specs.Judged.{w-rows}
 use Rattle.judge.proofs.Laws.Records.{declared-low, records-low, others-walk}
 use Rattle.judge.proofs.Laws.Marks.{length-none}

@@ -10,9 +10,9 @@ use borrow.Fn.PlainCycle.{Measures, is, falls, and}
 use Rattle.planlist.proofs.block.block.Reads as block
 use Rattle.planlist.proofs.block.block.Kinds as block-kinds
 use Rattle.planlist.proofs.block.+block.Lts-block as block-lts
-use Rattle.format.proofs.bytes.fields_at.Reads as fields-at-reads
-use Rattle.format.proofs.bytes.first_arm.Reads as first-arm-reads
-use Rattle.format.proofs.bytes.second_arm.Reads as second-arm-reads
+use Rattle.reading.proofs.fields_at.Reads as fields-at-reads
+use Rattle.reading.proofs.first_arm.Reads as first-arm-reads
+use Rattle.reading.proofs.second_arm.Reads as second-arm-reads
 use Rattle.planlist.proofs.records.else_line.Reads as else-line-reads
 use Rattle.planlist.proofs.records.empty_line.Reads as empty-line-reads
 use Rattle.planlist.proofs.records.record_line.Reads as record-line-reads

@@ -1,13 +1,13 @@
 -- `end_of` answers what the end of a run answers.
 use mathlib.Core.Path.{_∙_}
-use Rattle.format.proofs.Laws.Rows.{turned}
+use Rattle.model.proofs.Rows.{turned}
 use Rattle.run.proofs.Ends.{end-refused}
 use borrow.Author.Needs.{needs}
 use Rattle.run.proofs.running.end_of.Statement.{statement}
 use Rattle.run.proofs.running.end_of.Tie as tie
 use Rattle.run.proofs.running.end_of.Reads as reads
 use Rattle.run.proofs.running.end_of.Lts as lts
-use Rattle.run.proofs.flags.flags_set.Reads as flags-set-reads
+use Rattle.acts.proofs.flags.flags_set.Reads as flags-set-reads
 use Rattle.run.proofs.running.no_end.Reads as no-end-reads
 
 enum-told : tie.Need-enum-told

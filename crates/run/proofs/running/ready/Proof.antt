@@ -4,10 +4,10 @@ use native.Mathlib.Omega.{arith}
 use lib.ListN.{length}
 use borrow.Author.Tests.{le-ltb}
 use Rattle.model.specs.declared.Verdict.the-variants.{Accepted}
-use Rattle.format.specs.Bytes.{kind-of}
+use Rattle.reading.specs.Bytes.{kind-of}
 use Rattle.format.specs.Opening.{opening}
-use Rattle.format.specs.Opened.{found}
-use Rattle.format.proofs.Laws.Rows.{turned}
+use Rattle.contents.specs.Found.{found}
+use Rattle.model.proofs.Rows.{turned}
 use Rattle.format.proofs.Walking.{verdict-is, found-is}
 use Rattle.run.proofs.Begins.{row-unopened, row-declared, row-short, row-many, row-none}
 use borrow.Author.Needs.{needs}

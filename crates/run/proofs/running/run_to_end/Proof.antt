@@ -3,17 +3,17 @@ use mathlib.Core.Path.{refl, ap}
 use native.Mathlib.Omega.{arith}
 use lib.ListN.{length}
 use Rattle.model.specs.Sides.{cells}
-use Rattle.format.specs.Bytes.{arrays-of}
-use Rattle.run.specs.Inner.Acting.{Same}
-use Rattle.run.specs.Inner.Standing.{runner, measure, Reaches}
-use Rattle.run.proofs.Cells.{changed-same, same-all, same-twice}
+use Rattle.reading.specs.Bytes.{arrays-of}
+use Rattle.acts.specs.Inner.Acting.{Same}
+use Rattle.machine.specs.Inner.Standing.{runner, measure, Reaches}
+use Rattle.acts.proofs.Cells.{changed-same, same-all, same-twice}
 use Rattle.run.proofs.Begins.{reaches-start, ready-found, ready-facts, ready-plain, ready-starts}
 use borrow.Author.Needs.{needs}
 use Rattle.run.proofs.running.run_to_end.Statement.{statement}
 use Rattle.run.proofs.running.run_to_end.Tie as tie
 use Rattle.run.proofs.running.run_to_end.Reads as reads
 use Rattle.run.proofs.running.run_to_end.Lts as lts
-use Rattle.run.proofs.machine.step.Reads as step-reads
+use Rattle.machine.proofs.step.Reads as step-reads
 use Rattle.run.proofs.running.first_machine.Reads as first-machine-reads
 use Rattle.run.proofs.running.write_start.Reads as write-start-reads
 

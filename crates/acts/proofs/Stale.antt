@@ -1,0 +1,90 @@
+-- The cells of a record as a range of memories, and where they are stale: the numbers in the memories tell what the stamps tell.
+use Prim.Native.Nat.{ℕ, _+_, _≤_, _<_}
+use mathlib.Core.Path.{_≡_, refl, sym, _∙_}
+use mathlib.Core.Bool.{Bool, true, false, not, _||_, true≢false}
+use mathlib.Core.List.{List}
+use mathlib.Core.Option.{none, some}
+use native.Mathlib.Omega.{arith}
+use lib.Dec.{leb, ltb, eqb}
+use lib.ListN.{getD}
+use borrow.Author.Tests.{ltb-true, leb-true, lt-ltb, le-leb, eq-eqb, ne-eqb}
+use Rattle.model.specs.Sides.{Side, Stamp, never, at, equals, Arrays, cells, length-of, first-of, array-of, within, Cells}
+use Rattle.model.specs.Effects.{Action, State, met, current}
+use Rattle.model.specs.Runs.{lowest-unmet}
+use Rattle.model.proofs.Booleans.{and-out, and-in}
+use Rattle.model.proofs.Numbering.{in-array, array-from, array-ends, within-range}
+use Rattle.model.proofs.Unmet.{unmet-first, none-unmet}
+use Rattle.acts.specs.Memories.{number-of}
+use Rattle.acts.specs.Inner.Acting.{among, FirstStale, CellsAt, ArrayAt}
+
+pub among-true : (from to c : ℕ) → from ≤ c → c < to → among from to c ≡ true
+among-true from to c h k = and-in (leb from c) (ltb c to) (le-leb from c h) (lt-ltb c to k)
+
+pub among-out : (from to c : ℕ) → among from to c ≡ true → (from ≤ c) × (c < to)
+among-out from to c e = let p = and-out (leb from c) (ltb c to) e in (leb-true from c (p .0), ltb-true c to (p .1))
+
+-- the cells of a range of an array
+pub range-ends : {arrays : Arrays} {x : Cells} {from to : ℕ} → CellsAt arrays x from to → to ≤ cells arrays
+range-ends {arrays} {x} k = omega (arith, array-ends arrays (x .array), k .ends, k .fits)
+
+pub range-cells : {arrays : Arrays} {x : Cells} {from to : ℕ} → CellsAt arrays x from to → (c : ℕ) → within arrays x c ≡ among from to c
+range-cells {arrays} {x} k c = rw (k .begins, k .ends) (within-range arrays x c (k .fits))
+
+-- the cells of an array
+pub array-cells-end : {arrays : Arrays} {a from to : ℕ} → ArrayAt arrays a from to → to ≤ cells arrays
+array-cells-end {arrays} {a} k = omega (arith, array-ends arrays a, k .ends)
+
+pub array-cells : {arrays : Arrays} {a from to : ℕ} → ArrayAt arrays a from to → (c : ℕ) → c < cells arrays → eqb (array-of arrays c) a ≡ among from to c
+array-cells {arrays} {a} {from} {to} k c h = go (among from to c) refl
+  where
+    go : (b : Bool) → among from to c ≡ b → eqb (array-of arrays c) a ≡ b
+    go true e = let p = among-out from to c e in eq-eqb (array-of arrays c) a (array-from arrays a c (omega (arith, k .begins, p .0)) (omega (arith, k .ends, p .1)))
+    go false e = ne-eqb (array-of arrays c) a λ q.
+        let i : (first-of arrays a ≤ c) × (c < first-of arrays a + length-of arrays a) = rw q at (in-array arrays c h) in
+        true≢false (sym (among-true from to c (omega (arith, k .begins, i .0)) (omega (arith, k .ends, i .1))) ∙ e)
+
+-- two stamps are equal exactly if their numbers are
+same-number : (x : Stamp) (k : ℕ) → k < 18446744073709551615 → number-of x ≡ k → equals x k ≡ true
+same-number never k h e = absurd (omega arith)
+same-number (at j) k h e = eq-eqb j k e
+
+other-number : (x : Stamp) (k : ℕ) → (number-of x ≡ k → ⊥) → equals x k ≡ false
+other-number never k n = refl
+other-number (at j) k n = ne-eqb j k n
+
+-- none of them is stale
+pub none-stale : {copies latest : List ℕ} {from to r : ℕ} → FirstStale copies latest from to r → to ≤ r → FirstStale copies latest from to to
+none-stale f h = record { low = omega (arith, f .low, f .high); high = omega arith; before = λ c i j. f .before c i (omega arith); here = λ i e. omega arith }
+
+-- a memory with the copies of side u, and the latest stamps
+pub record Sees (arrays : Arrays) (u : Side) (copies latest : List ℕ) (σ : State) : Type 0 where
+  pub held : (c : ℕ) → c < cells arrays → getD copies c 0 ≡ number-of (σ .held u c)
+  pub latest-is : (c : ℕ) → c < cells arrays → getD latest c 0 ≡ σ .latest c
+  pub small : (c : ℕ) → σ .latest c < 18446744073709551615
+
+-- the range of cells `these`, which has to be current on side u
+module _ (arrays : Arrays) (u : Side) (copies latest : List ℕ) (σ : State) (sees : Sees arrays u copies latest σ)
+    (these : ℕ → Bool) (from to : ℕ) (range : (c : ℕ) → c < cells arrays → these c ≡ among from to c) where
+  -- every cell but those from the first stale one on
+  fine : (r : ℕ) → FirstStale copies latest from to r → (c : ℕ) → c < cells arrays → (c < to → c < r) → (not (these c) || current σ u c) ≡ true
+  fine r f c h before = rw (range c h) (go (among from to c) refl)
+    where
+      go : (b : Bool) → among from to c ≡ b → (not b || current σ u c) ≡ true
+      go true e =
+          let p = among-out from to c e in
+          same-number (σ .held u c) (σ .latest c) (sees .small c) (sym (sees .held c h) ∙ f .before c (p .0) (before (p .1)) ∙ sees .latest-is c h)
+      go false e = refl
+
+  stale : (r : ℕ) → FirstStale copies latest from to r → r < cells arrays → r < to → (not (these r) || current σ u r) ≡ false
+  stale r f h k = rw (range r h, among-true from to r (f .low) k)
+      (other-number (σ .held u r) (σ .latest r) λ e. f .here k (sees .held r h ∙ e ∙ sym (sees .latest-is r h)))
+
+  module _ (y : Action) (needs : (c : ℕ) → met arrays y σ c ≡ (not (these c) || current σ u c)) where
+    -- none of them is stale
+    pub all-fine : (r : ℕ) → FirstStale copies latest from to r → to ≤ r → lowest-unmet arrays y σ ≡ none
+    all-fine r f k = none-unmet arrays y σ λ c h. needs c ∙ fine r f c h (λ z. omega arith)
+
+    -- the first stale one is the lowest unmet cell
+    pub stale-at : (r : ℕ) → FirstStale copies latest from to r → r < to → to ≤ cells arrays → lowest-unmet arrays y σ ≡ some r
+    stale-at r f k h = unmet-first arrays y σ 0 (cells arrays) r (omega arith) (omega arith) (needs r ∙ stale r f (omega arith) k)
+        (λ c z. needs c ∙ fine r f c (omega arith) (λ _. z))

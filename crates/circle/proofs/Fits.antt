@@ -1,0 +1,209 @@
+-- The expansion of a file that opens as a declared plan is within the bounds of a plain plan, where it has at most 1,024 records.
+use mathlib.Core.Path.{_≡_, refl, sym, ap, _∙_}
+use mathlib.Core.Bool.{Bool, true, _&&_}
+use mathlib.Core.List.{List, [], _∷_, _++_}
+use Prim.Native.Nat.{ℕ, zero, suc, _+_, _-_, _≤_, _<_}
+use native.Nat.{ℕᴺ-discrete}
+use native.Mathlib.Decide.{decLt}
+use native.Mathlib.Omega.{arith}
+use lib.Dec.{ltb, leb, eqb}
+use lib.ListN.{length}
+use borrow.Author.Tests.{ltb-true, ltb-false, le-leb, ne-eqb}
+use Rattle.model.specs.declared.Verdict.the-variants.{Accepted}
+use Rattle.model.specs.Sides.{Side, Cells, length-of}
+use Rattle.model.specs.Effects.{Action, read, write, copy, need, mark}
+use Rattle.model.specs.Blocks.{Block, size}
+use Rattle.model.specs.Judging.{Declaration, Pass, no-pass, pass-of}
+use Rattle.model.specs.Expanding.{expand}
+use Rattle.model.proofs.Booleans.{and-out, and-in}
+use Rattle.reading.specs.declared.Fields.{Fields}
+use Rattle.reading.specs.Bytes.{kind-of, array-count, body-count, table, length-at, arrays-of, records-in, declarations-in, first-record, fields-at, between}
+use Rattle.records.specs.Records.{fields-fit, deepest}
+use Rattle.format.specs.Opening.{opening}
+use Rattle.format.specs.Plans.{action-of, declaration-of, pass-at, declared-plan-of}
+use Rattle.files.specs.Files.{side-number, action-fields}
+use Rattle.files.specs.Bounds.{all, arrays-fit, cells-fit, action-fits, block-fits, plain-fits}
+use Rattle.format.specs.Inner.Walks.{Good, block-between, body0-between}
+use Rattle.reading.proofs.Ranges.{in-range}
+use Rattle.reading.proofs.Tables.{length-table, arrays-counted, array-length, next-record}
+use Rattle.records.proofs.Fields.{fit-declaration}
+use Rattle.records.proofs.Records.{Tests}
+use Rattle.format.proofs.Walking.{Facts, opened-facts, good-parts}
+use Rattle.format.proofs.Trees.{block-none, block-branch, block-loop, block-act, body0-none, body0-branch, body0-loop, body0-call, walk-of, body0-good, body0-body, pass-kind, pass-good, pass-declaration, pass-body}
+use Rattle.expand.specs.Expanded.{expansion-of}
+use Rattle.expand.proofs.Laws.Fields.{action-again}
+use Rattle.expand.proofs.Laws.Walks.{second, next}
+use Rattle.circle.proofs.Levels.{more-levels, branch-fits, loop-fits, then-fits, declared-fits, numbered-fits}
+
+-- a test that each entry of a table passes
+module _ {A : Type 0} (test : A → Bool) where
+  all-append : (l m : List A) → all test l ≡ true → all test m ≡ true → all test (l ++ m) ≡ true
+  all-append [] m e h = h
+  all-append (x ∷ l) m e h = let k = and-out (test x) (all test l) e in and-in _ _ (k .0) (all-append l m (k .1) h)
+
+  all-table : (g : ℕ → A) (n : ℕ) → ((i : ℕ) → i < n → test (g i) ≡ true) → all test (table g n) ≡ true
+  unfolding table
+  all-table g zero h = refl
+  all-table g (suc n) h = all-append (table g n) (g n ∷ []) (all-table g n (λ i k. h i (omega arith))) (and-in _ _ (h n (omega arith)) refl)
+
+-- a test that all passes and the one of no records pass: whatever a call calls passes it
+all-called : (test : Pass → Bool) → test no-pass ≡ true → (ps : List Pass) (b : ℕ) → all test ps ≡ true → test (pass-of ps b) ≡ true
+all-called test e [] b h = e
+all-called test e (p ∷ ps) zero h = e
+all-called test e (p ∷ ps) (suc zero) h = and-out (test p) (all test ps) h .0
+all-called test e (p ∷ ps) (suc (suc b)) h = all-called test e ps (suc b) (and-out (test p) (all test ps) h .1)
+
+-- a record whose fields fit, as an action and as a declaration
+module _ (f : List ℕ) where
+  -- what kinds 1 to 5 and 16 to 18 have in common
+  on-array : (side a : ℕ) (x y z : Bool) → (ltb side 2 && ltb a (array-count f) && x && y && z) ≡ true → ltb a (length (arrays-of f)) ≡ true
+  on-array side a x y z e =
+      let w₁ = and-out (ltb side 2 && ltb a (array-count f) && x && y) z e in
+      let w₂ = and-out (ltb side 2 && ltb a (array-count f) && x) y (w₁ .0) in
+      let w₃ = and-out (ltb side 2 && ltb a (array-count f)) x (w₂ .0) in
+      rw (arrays-counted f) (and-out (ltb side 2) (ltb a (array-count f)) (w₃ .0) .1)
+
+  length-is : (a : ℕ) → ltb a (length (arrays-of f)) ≡ true → length-of (arrays-of f) a ≡ length-at f a
+  length-is a h = array-length f a (rw (arrays-counted f) at (ltb-true a (length (arrays-of f)) h))
+
+  ranged-fits : (s : Side) (x : Cells) → (ltb (side-number s) 2 && ltb (x .array) (array-count f) && true && ltb (x .p) (x .q) && leb (x .q) (length-at f (x .array))) ≡ true → cells-fit (arrays-of f) x ≡ true
+  ranged-fits s x e =
+      let front = ltb (side-number s) 2 && ltb (x .array) (array-count f) && true in
+      let w = and-out (front && ltb (x .p) (x .q)) (leb (x .q) (length-at f (x .array))) e in
+      let a = on-array (side-number s) (x .array) true (ltb (x .p) (x .q)) _ e in
+      rw (length-is (x .array) a, a, and-out front (ltb (x .p) (x .q)) (w .0) .1, w .1)
+
+  fields-action : (x : Action) → fields-fit f (action-fields x) ≡ true → action-fits (arrays-of f) x ≡ true
+  unfolding fields-fit
+  fields-action (read s x) e = ranged-fits s x e
+  fields-action (write s x) e = ranged-fits s x e
+  fields-action (copy s x) e = ranged-fits s x e
+  fields-action (need s a) e = on-array (side-number s) a true true true e
+  fields-action (mark s a) e = on-array (side-number s) a true true true e
+
+  module _ (x : Fields) (fits : fields-fit f x ≡ true) where
+    action-fit : 1 ≤ x .kind → x .kind ≤ 5 → action-fits (arrays-of f) (action-of x) ≡ true
+    action-fit h k = fields-action (action-of x) (rw (action-again f x fits h k) fits)
+
+    declaration-fit : 16 ≤ x .kind → x .kind ≤ 18 → ltb (declaration-of x .array) (length (arrays-of f)) ≡ true
+    unfolding declaration-of
+    declaration-fit h k =
+        on-array (x .side) (x .array) (eqb (x .zero) 0) (eqb (x .p) 0) (eqb (x .q) 0)
+        (fit-declaration f x _ _ _ (record { arrays-are = refl; bodies-are = refl; size-is = refl }) h k ∙ fits)
+
+-- the blocks made of the records of body b of a declared plan, from record `low` on, record by record; `most` levels are allowed in all
+module _ (f : List ℕ) (kind : kind-of f ≡ 1) (b low most : ℕ) (enough : 8 ≤ most) (block : ℕ → ℕ → Block) where
+  record Parted : Type 0 where
+    none : (r end : ℕ) → end ≤ r → block r end ≡ Block.done
+    branch : (depth r end : ℕ) → r < end → Good f b depth r end → fields-at f r .kind ≡ 6
+        → (n : ℕ) × (block r end ≡ Block.branch n (block (r + 1) (second f r)) (block (second f r) (next f r)) (block (next f r) end))
+    loop : (depth r end : ℕ) → r < end → Good f b depth r end → fields-at f r .kind ≡ 7
+        → (n : ℕ) × (block r end ≡ Block.loop n (block (r + 1) (second f r)) (block (next f r) end))
+    other : (levels depth r end : ℕ) → depth + levels ≡ most → depth ≤ 8 → low ≤ r → r < end → Good f b depth r end → (fields-at f r .kind ≡ 6 → ⊥) → (fields-at f r .kind ≡ 7 → ⊥)
+        → block-fits (arrays-of f) levels (block (next f r) end) ≡ true → block-fits (arrays-of f) levels (block r end) ≡ true
+
+  -- "in a body of a declared plan inside at most 7"
+  shallow : (depth r end : ℕ) → Tests f b depth r end → 6 ≤ fields-at f r .kind → fields-at f r .kind ≤ 7 → depth < 8
+  unfolding deepest
+  shallow depth r end t h k = let l : depth ≤ 7 = ltb-false 7 depth (rw (in-range 6 7 (fields-at f r .kind) h k, ne-eqb (kind-of f) 2 (λ z. omega arith)) at (t .shallow)) in omega arith
+
+  module _ (parted : Parted) where
+    parts-fit : (fuel levels depth r end : ℕ) → end ≤ r + fuel → depth + levels ≡ most → depth ≤ 8 → low ≤ r → Good f b depth r end → block-fits (arrays-of f) levels (block r end) ≡ true
+    parts-fit zero levels depth r end n d e l g = rw (parted .none r end (omega arith))
+    parts-fit (suc fuel) levels depth r end n d e l g = elim (decLt r end) [
+      | no m ↦ rw (parted .none r end (omega arith))
+      | yes m ↦
+          let p = good-parts f b depth r end m g in
+          let i = p .tests .inside in
+          let rest = parts-fit fuel levels depth (next f r) end (omega arith) d e (omega arith) (p .rest) in
+          elim (ℕᴺ-discrete (fields-at f r .kind) 6) [
+            | yes k ↦
+                let s = shallow depth r end (p .tests) (omega arith) (omega arith) in
+                branch-fits (arrays-of f) most depth (omega arith) (parted .branch depth r end m g k .1) levels d
+                (λ q u. parts-fit fuel q (depth + 1) (r + 1) (second f r) (omega arith) u (omega arith) (omega arith) (p .one))
+                (λ q u. parts-fit fuel q (depth + 1) (second f r) (next f r) (omega arith) u (omega arith) (omega arith) (p .two)) rest
+            | no j ↦ elim (ℕᴺ-discrete (fields-at f r .kind) 7) [
+              | yes k ↦
+                  let s = shallow depth r end (p .tests) (omega arith) (omega arith) in
+                  loop-fits (arrays-of f) most depth (omega arith) (parted .loop depth r end m g k .1) levels d
+                  (λ q u. parts-fit fuel q (depth + 1) (r + 1) (second f r) (omega arith) u (omega arith) (omega arith) (p .one)) rest
+              | no k ↦ parted .other levels depth r end d e l m g j k rest
+            ]
+          ]
+    ]
+
+    -- the records of a good block that stands inside no other
+    body-fits : (r end : ℕ) → low ≤ r → Good f b 0 r end → block-fits (arrays-of f) most (block r end) ≡ true
+    body-fits r end l g = parts-fit end most 0 r end (omega arith) (omega arith) (omega arith) l g
+
+-- a file that opens as a declared plan
+module _ (f : List ℕ) (w : Facts f) (kind : kind-of f ≡ 1) where
+  arrays-within : arrays-fit (arrays-of f) ≡ true
+  unfolding arrays-of
+  arrays-within =
+      let few = w .bounds .header .arrays in
+      let lengths = all-table (between 1 4096) (length-at f) (array-count f) (λ a h. let n = w .bounds .lengths a h in in-range 1 4096 _ (n .0) (n .1)) in
+      and-in (between 1 32 (length (table (length-at f) (array-count f)))) _ (rw (length-table (length-at f) (array-count f)) (in-range 1 32 _ (few .0) (few .1))) (and-in _ _ lengths (le-leb _ _ (w .bounds .cells-below)))
+
+  -- a pass whose declarations are of the plan's arrays and whose other records fit 8 levels
+  abbrev called-fits : Pass → Bool
+  called-fits p = all (λ (d : Declaration). ltb (d .array) (length (arrays-of f))) (p .declarations) && block-fits (arrays-of f) 8 (p .body)
+
+  module _ (b : ℕ) (p : 1 ≤ b) (l : b < body-count f) where
+    abbrev until : ℕ
+    until = first-record f b + declarations-in f b
+
+    pass-parted : Parted f kind b until 8 (omega arith) (block-between f)
+    pass-parted = record {
+      none = block-none f;
+      branch = λ depth r end m g k. (r, block-branch f r end m (walk-of g) (fields-at f r) refl k);
+      loop = λ depth r end m g k. (r, block-loop f r end m (walk-of g) (fields-at f r) refl k);
+      other = λ levels depth r end d e h m g j k rest.
+          let t = good-parts f b depth r end m g .tests in
+          let kinds = pass-kind f w kind b p l r h (t .allows) in
+          rw (block-act f r end m (walk-of g) (fields-at f r) refl j k) (and-in _ _ (action-fit f (fields-at f r) (t .fits) (kinds .0) (omega arith)) rest);
+    }
+
+    declarations-fit : all (λ (d : Declaration). ltb (d .array) (length (arrays-of f))) (pass-at f b .declarations) ≡ true
+    unfolding pass-at
+    declarations-fit = all-table _ _ (declarations-in f b) λ i h.
+        let g = pass-good f w kind b p l i (omega arith) in
+        let d = pass-declaration f w kind b p l i h in
+        declaration-fit f (fields-at f (first-record f b + i)) (good-parts f b 0 _ _ (omega (arith, w .bounds .declared b l, next-record f b l)) g .tests .fits) (d .0) (d .1)
+
+    others-fit : block-fits (arrays-of f) 8 (pass-at f b .body) ≡ true
+    others-fit = rw (pass-body f w kind b p l) (body-fits f kind b until 8 (omega arith) (block-between f) pass-parted until _ (omega arith) (rw (next-record f b l) at (pass-good f w kind b p l (declarations-in f b) (omega arith))))
+
+    pass-fits : called-fits (pass-at f b) ≡ true
+    pass-fits = and-in _ _ declarations-fit others-fit
+
+  abbrev passes : List Pass
+  passes = declared-plan-of f .passes
+
+  passes-fit : all called-fits passes ≡ true
+  unfolding declared-plan-of
+  passes-fit = all-table called-fits (λ b. pass-at f (suc b)) (body-count f - 1) (λ b h. pass-fits (suc b) (omega arith) (omega arith))
+
+  -- body 0, each call with what stands for it
+  body0-parted : Parted f kind 0 0 16 (omega arith) (λ r end. expand passes (body0-between f r end))
+  body0-parted = record {
+    none = λ r end h. ap (expand passes) (body0-none f r end h);
+    branch = λ depth r end m g k. (0, ap (expand passes) (body0-branch f r end m (walk-of g) (fields-at f r) refl k));
+    loop = λ depth r end m g k. (0, ap (expand passes) (body0-loop f r end m (walk-of g) (fields-at f r) refl k));
+    other = λ levels depth r end d e h m g j k rest.
+        let called = pass-of passes (fields-at f r .p) in
+        let fit = and-out (all (λ (c : Declaration). ltb (c .array) (length (arrays-of f))) (called .declarations)) (block-fits (arrays-of f) 8 (called .body)) (all-called called-fits refl passes (fields-at f r .p) passes-fit) in
+        rw (ap (expand passes) (body0-call f r end m (walk-of g) (fields-at f r) refl j k))
+        (declared-fits (arrays-of f) (called .declarations) _ levels (fit .0) (then-fits (arrays-of f) (called .body) _ levels (more-levels (arrays-of f) (called .body) 8 levels (omega arith) (fit .1)) rest));
+  }
+
+  block-within : block-fits (arrays-of f) 16 (expansion-of f .body) ≡ true
+  block-within =
+      numbered-fits (arrays-of f) 0 (expand passes (declared-plan-of f .body0)) 16
+      ∙ rw (body0-body f w) (body-fits f kind 0 0 16 (omega arith) (λ r end. expand passes (body0-between f r end)) body0-parted 0 (records-in f 0) (omega arith) (body0-good f w))
+
+pub expansion-fits : (f : List ℕ) → opening f ≡ Accepted → kind-of f ≡ 1 → size (expansion-of f .body) ≤ 1024 → plain-fits (expansion-of f) ≡ true
+unfolding declared-plan-of
+expansion-fits f e kind few =
+    let w = opened-facts f (sym e) in
+    and-in _ _ (arrays-within f w kind) (and-in _ _ (block-within f w kind) (le-leb _ _ few))

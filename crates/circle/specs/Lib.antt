@@ -1,0 +1,2 @@
+-- The run of what the expander writes.
+pub mod Closing

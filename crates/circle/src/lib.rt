@@ -1,0 +1,1 @@
+// No function: this crate holds the theorems that join the services.

@@ -1,0 +1,35 @@
+-- Case 3 of document 01, byte for byte: it opens, it is that plan, and the plan's file is those bytes.
+use mathlib.Core.Path.{_≡_, refl}
+use mathlib.Core.List.{List, [], _∷_}
+use Prim.Native.Nat.{ℕ}
+use Rattle.model.specs.declared.Verdict.the-variants.{Accepted}
+use Rattle.model.specs.Sides.{card, first-of}
+use Rattle.model.specs.Effects.{read}
+use Rattle.model.specs.Blocks.{Block, Plan}
+use Rattle.model.specs.Rows.{first, each}
+use Rattle.reading.specs.Bytes.{u16-at, table, length-at, arrays-of, entry-at, sizes-of, fields-at, first-arm, second-arm}
+use Rattle.sums.specs.Sums.{plain-sum, weighted-sum, check-bytes}
+use Rattle.contents.specs.Contents.{header-fits, header-rows, array-rows, body-rows, contents-rows, checks-fit, tail-rows, front-rows}
+use Rattle.records.specs.Records.{fields-fit, allowed, deepest, record-rows, block-rows, records-rows}
+use Rattle.format.specs.Opening.{open-rows, opening}
+use Rattle.format.specs.Plans.{action-of, block-of, plan-of}
+use Rattle.files.specs.Files.{file, plain-file}
+
+-- "Case 3 is, in hexadecimal, 02 01 01 00 01 00 01 00 00 00 01 01 00 00 00 00 01 00 09 3B"
+bytes : List ℕ
+bytes = 0x02 ∷ 0x01 ∷ 0x01 ∷ 0x00 ∷ 0x01 ∷ 0x00 ∷ 0x01 ∷ 0x00 ∷ 0x00 ∷ 0x00 ∷ 0x01 ∷ 0x01 ∷ 0x00 ∷ 0x00 ∷ 0x00 ∷ 0x00 ∷ 0x01 ∷ 0x00 ∷ 0x09 ∷ 0x3B ∷ []
+
+plan : Plan
+plan = record { arrays = 1 ∷ []; body = Block.act 0 (read card (record { array = 0; p = 0; q = 1 })) Block.done }
+
+opens : opening bytes ≡ Accepted
+unfolding bytes first each u16-at length-at table arrays-of entry-at sizes-of fields-at first-of plain-sum weighted-sum header-fits header-rows array-rows body-rows contents-rows checks-fit tail-rows fields-fit allowed first-arm second-arm deepest record-rows block-rows records-rows front-rows open-rows opening
+opens = refl
+
+is-plan : plan-of bytes ≡ plan
+unfolding bytes plan u16-at length-at table arrays-of entry-at sizes-of fields-at first-of first-arm second-arm action-of block-of plan-of
+is-plan = refl
+
+is-file : plain-file plan ≡ bytes
+unfolding bytes plan file check-bytes plain-sum weighted-sum
+is-file = refl

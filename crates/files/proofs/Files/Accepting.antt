@@ -1,0 +1,112 @@
+-- A file whose bodies are within the bounds passes the rows of header, contents and tail; it opens if the rows of its records pass too.
+use mathlib.Core.Path.{_≡_, refl}
+use mathlib.Core.Bool.{Bool, true, false, not, _&&_, _||_}
+use mathlib.Core.List.{List, [], _∷_, _++_}
+use Prim.Native.Nat.{ℕ, zero, suc, _≤_, _<_}
+use native.Mathlib.Omega.{arith}
+use native.Mathlib.Nat.{zero-add}
+use lib.ListN.{length}
+use lib.Dec.{ltb, leb, eqb}
+use borrow.Author.Tests.{le-ltb, leb-true, eq-eqb}
+use Rattle.model.specs.declared.Verdict.the-variants.{Accepted}
+use Rattle.model.specs.Sides.{Arrays, cells, first-of}
+use Rattle.model.proofs.Booleans.{and-out}
+use Rattle.model.specs.Rows.{Row, row, first, each}
+use Rattle.reading.specs.Bytes.{array-count, length-at, first-record, bodies-at, between}
+use Rattle.contents.specs.Contents.{header-fits, header-rows, array-rows, body-rows, contents-rows, tail-rows, front-rows}
+use Rattle.records.specs.Records.{records-rows}
+use Rattle.format.specs.Opening.{open-rows, opening}
+use Rattle.files.specs.Files.{Body}
+use Rattle.files.specs.Bounds.{all, arrays-fit}
+use Rattle.files.proofs.Files.Holding.{Along, none, more, at-place, each-so, both-along}
+use Rattle.files.proofs.Files.Places.{body-size, sizes, Placed, Laid, first-of-within}
+
+-- no row of the list holds
+abbrev pub Passes : List Row → Type 0
+Passes rows = first rows ≡ Accepted
+
+pub passes-none : Passes []
+unfolding first
+passes-none = refl
+
+pub passes-row : (holds : Bool) (number place : ℕ) (rows : List Row) → holds ≡ false → Passes rows → Passes (row holds number place ∷ rows)
+unfolding first
+passes-row holds number place rows e h = rw e h
+
+pub passes-append : (a b : List Row) → Passes a → Passes b → Passes (a ++ b)
+unfolding first
+passes-append [] b e h = h
+passes-append (row true n p ∷ a) b e h = absurd (let z : _≡_ {A = ℕ} 0 1 = cc in omega arith)
+passes-append (row false n p ∷ a) b e h = passes-append a b e h
+
+passes-each : (n : ℕ) (rows : ℕ → List Row) → ((i : ℕ) → i < n → Passes (rows i)) → Passes (each n rows)
+unfolding each
+passes-each zero rows h = passes-none
+passes-each (suc n) rows h = passes-append (each n rows) (rows n) (passes-each n rows (λ i k. h i (omega arith))) (h n (omega arith))
+
+passes-along : {A : Type 0} (l : List A) (rows : ℕ → List Row) → Along (λ i x. Passes (rows i)) 0 l → Passes (each (length l) rows)
+unfolding each
+passes-along [] rows h = passes-none
+passes-along (x ∷ l) rows h = passes-each (suc (length l)) rows (λ i k. rw zero-add at (at-place h x i k))
+
+pub within-bounds : (low high x : ℕ) → between low high x ≡ true → (low ≤ x) × (x ≤ high)
+within-bounds low high x e = let h = and-out (leb low x) (leb x high) e in (leb-true _ _ (h .0), leb-true _ _ (h .1))
+
+all-along : {A : Type 0} (test : A → Bool) (l : List A) (r : ℕ) → all test l ≡ true → Along (λ i x. test x ≡ true) r l
+all-along test [] r e = none
+all-along test (x ∷ l) r e = let h = and-out (test x) (all test l) e in more (h .0) (all-along test l (suc r) (h .1))
+
+-- "more declarations than records, declarations in body 0"
+pub record EntryFits (b : ℕ) (x : Body) : Type 0 where
+  pub declared : x .declarations ≤ body-size x
+  pub none-first : (eqb b 0 && not (eqb (x .declarations) 0)) ≡ false
+
+-- the rows of each place, in the order of the table
+module _ (f : List ℕ) (kind : ℕ) (arrays : Arrays) (bodies : List Body) (l : Laid f kind arrays bodies) where
+  header-passes : between 1 2 kind ≡ true → between 1 32 (length arrays) ≡ true → between 1 32 (length bodies) ≡ true
+      → (eqb kind 1 || eqb (length bodies) 1) ≡ true → Passes (header-rows f)
+  unfolding header-rows header-fits
+  header-passes kinds some-arrays some-bodies one =
+      passes-row _ _ _ _ (le-ltb (length f) 4 (omega (arith, l .long, l .bodies-start)))
+      (passes-row _ _ _ _ (rw (l .kind-is, l .arrayed .counted, l .body-count-is, l .zero-is, kinds, some-arrays, some-bodies, one)) passes-none)
+
+  array-passes : leb (cells arrays) 4096 ≡ true → (a n : ℕ) → length-at f a ≡ n → between 1 4096 n ≡ true → Passes (array-rows f a)
+  unfolding array-rows
+  array-passes total a n e fits =
+      let few : cells arrays ≤ 4096 = leb-true _ _ total in
+      let so-far : ltb 4096 (first-of arrays (suc a)) ≡ false = le-ltb 4096 (first-of arrays (suc a)) (omega (arith, first-of-within arrays (suc a))) in
+      passes-row _ _ _ _ (rw (e, l .arrays-are, fits, so-far)) passes-none
+
+  body-passes : cells (sizes bodies) ≤ 1024 → (b : ℕ) (x : Body) → Placed f b x → EntryFits b x → Passes (body-rows f b)
+  unfolding body-rows
+  body-passes few b x p fits =
+      let e = p .entry in
+      let so-far : ltb 1024 (first-record f (suc b)) ≡ false = le-ltb 1024 (first-record f (suc b)) (omega (arith, l .within (suc b))) in
+      let some : ltb (body-size x) (x .declarations) ≡ false = le-ltb _ _ (fits .declared) in
+      passes-row _ _ _ _ (rw (so-far, e .last-is, e .records-are, e .declarations-are, some, fits .none-first)) passes-none
+
+  contents-passes : arrays-fit arrays ≡ true → cells (sizes bodies) ≤ 1024 → Along EntryFits 0 bodies → Passes (contents-rows f)
+  unfolding contents-rows
+  contents-passes fit few entries =
+      let h = and-out (between 1 32 (length arrays)) (all (between 1 4096) arrays && leb (cells arrays) 4096) fit in
+      let k = and-out (all (between 1 4096) arrays) (leb (cells arrays) 4096) (h .1) in
+      let lengths = both-along (l .arrayed .held) (all-along (between 1 4096) arrays 0 (k .0)) in
+      let bodies-fit = both-along (l .placed) entries in
+      passes-row _ _ _ _ (le-ltb (length f) (bodies-at f) (omega (arith, l .long)))
+      (passes-append (each (array-count f) (array-rows f)) _
+      (rw (l .arrayed .counted) (passes-along arrays (array-rows f) (each-so (λ a n p. array-passes (k .1) a n (p .0) (p .1)) lengths)))
+      (rw (l .body-count-is) (passes-along bodies (body-rows f) (each-so (λ b x p. body-passes few b x (p .0) (p .1)) bodies-fit))))
+
+  tail-passes : Passes (tail-rows f)
+  unfolding tail-rows
+  tail-passes = passes-row _ _ _ _ (rw (eq-eqb _ _ (l .long))) (passes-row _ _ _ _ (rw (l .checked)) passes-none)
+
+  pub opens : between 1 2 kind ≡ true → arrays-fit arrays ≡ true → between 1 32 (length bodies) ≡ true → (eqb kind 1 || eqb (length bodies) 1) ≡ true
+      → cells (sizes bodies) ≤ 1024 → Along EntryFits 0 bodies → Along (λ b x. Passes (records-rows f b)) 0 bodies → opening f ≡ Accepted
+  unfolding opening open-rows front-rows
+  opens kinds fit some-bodies one few entries records =
+      let h = and-out (between 1 32 (length arrays)) (all (between 1 4096) arrays && leb (cells arrays) 4096) fit in
+      passes-append (front-rows f) _
+      (passes-append (header-rows f) _ (header-passes kinds (h .0) some-bodies one)
+      (passes-append (contents-rows f) _ (contents-passes fit few entries) tail-passes))
+      (rw (l .body-count-is) (passes-along bodies (records-rows f) records))

@@ -1,0 +1,262 @@
+-- Where the parts of a plan's file stand: the readers of `Bytes` give back what `Files` wrote.
+use mathlib.Core.Path.{_≡_, refl}
+use mathlib.Core.Bool.{true}
+use mathlib.Core.List.{List, [], _∷_, _++_, map}
+use Prim.Native.Nat.{ℕ, zero, suc, _+_, _*_, _-_, _/_, _%_, _≤_, _<_}
+use native.Mathlib.Omega.{arith}
+use native.Mathlib.Numerals.{add-one, add-two, add-three, add-four, add-six}
+use native.Mathlib.Nat.{add-zero, zero-add, add-assoc}
+use lib.ListN.{length, getD, length-append, length-map, List·getD-map}
+use lib.Seq.{take-at, getD-append-seam, getD-append-add}
+use borrow.Author.Tests.{eq-eqb}
+use Rattle.model.specs.Sides.{Arrays, cells, length-of, first-of}
+use Rattle.model.proofs.Booleans.{and-in}
+use Rattle.reading.specs.declared.Fields.{Fields}
+use Rattle.reading.specs.Bytes.{byte-at, u16-at, kind-of, array-count, body-count, length-at, arrays-of, entry-at, records-in, declarations-in, last-of-entry, sizes-of, first-record, record-count, bodies-at, fields-at}
+use Rattle.sums.specs.Sums.{plain-sum, weighted-sum, check-bytes}
+use Rattle.contents.specs.Contents.{checks-fit}
+use Rattle.files.specs.Files.{u16-bytes, record-bytes, Body, entry-bytes, joined, front, file}
+use Rattle.files.proofs.Files.Holding.{Along, none, more, Holds, front-part, back-part, at-place, along-of, each-so, along-map, itself, joined-length, pieces, table-is}
+
+-- numbers of two bytes
+u16-back : (n : ℕ) → n % 256 + n / 256 * 256 ≡ n
+u16-back n = omega arith
+
+u16-is : (f : List ℕ) (i n : ℕ) → Holds (byte-at f) i (u16-bytes n) → u16-at f i ≡ n
+unfolding u16-at
+u16-is f i n (more low (more high none)) = rw (add-one, low, high) (u16-back n)
+
+-- how long the parts are
+lengths-length : (arrays : Arrays) → length (joined u16-bytes arrays) ≡ 2 * length arrays
+lengths-length = joined-length u16-bytes 2 (λ n. refl)
+
+entries-length : (bodies : List Body) → length (joined entry-bytes bodies) ≡ 4 * length bodies
+entries-length = joined-length entry-bytes 4 (λ b. refl)
+
+front-length : (kind : ℕ) (arrays : Arrays) (bodies : List Body) → length (front kind arrays bodies) ≡ 4 + 2 * length arrays + 4 * length bodies
+front-length kind arrays bodies =
+    omega (arith, length-append (joined u16-bytes arrays) (joined entry-bytes bodies), lengths-length arrays, entries-length bodies)
+
+abbrev pub body-size : Body → ℕ
+body-size b = length (b .records)
+
+abbrev pub sizes : List Body → List ℕ
+sizes bodies = map body-size bodies
+
+abbrev body-bytes : Body → List ℕ
+body-bytes b = joined record-bytes (b .records)
+
+body-length : (b : Body) → length (body-bytes b) ≡ 8 * body-size b
+body-length b = joined-length record-bytes 8 (λ x. refl) (b .records)
+
+bodies-length : (bodies : List Body) → length (joined body-bytes bodies) ≡ 8 * cells (sizes bodies)
+bodies-length [] = refl
+bodies-length (b ∷ bodies) = omega (arith, length-append (body-bytes b) (joined body-bytes bodies), body-length b, bodies-length bodies)
+
+-- the parts of a file, in order
+record Parts (f : List ℕ) (kind : ℕ) (arrays : Arrays) (bodies : List Body) : Type 0 where
+  kind-is : kind-of f ≡ kind
+  array-count-is : array-count f ≡ length arrays
+  body-count-is : body-count f ≡ length bodies
+  zero-is : byte-at f 3 ≡ 0
+  lengths : Holds (byte-at f) 4 (joined u16-bytes arrays)
+  entries : Holds (byte-at f) (4 + 2 * length arrays) (joined entry-bytes bodies)
+  records : Holds (byte-at f) (4 + 2 * length arrays + 4 * length bodies) (joined body-bytes bodies)
+
+parts : (f : List ℕ) (kind : ℕ) (arrays : Arrays) (bodies : List Body) → Holds (byte-at f) 0 (front kind arrays bodies ++ joined body-bytes bodies) → Parts f kind arrays bodies
+parts f kind arrays bodies (more e0 (more e1 (more e2 (more e3 h)))) =
+    let lengths = joined u16-bytes arrays in
+    let entries = joined entry-bytes bodies in
+    let contents = front-part (lengths ++ entries) (joined body-bytes bodies) h in
+    let start : 4 + length (lengths ++ entries) ≡ 4 + 2 * length arrays + 4 * length bodies = omega (arith, front-length kind arrays bodies) in
+    record {
+      kind-is = e0;
+      array-count-is = e1;
+      body-count-is = e2;
+      zero-is = e3;
+      lengths = front-part lengths entries contents;
+      entries = rw (lengths-length arrays) at (back-part lengths contents);
+      records = rw start at (back-part (lengths ++ entries) h);
+    }
+
+-- one entry and one record
+module _ (f : List ℕ) where
+  pub record Entry (b : ℕ) (x : Body) : Type 0 where
+    pub records-are : records-in f b ≡ body-size x
+    pub declarations-are : declarations-in f b ≡ x .declarations
+    pub last-is : last-of-entry f b ≡ 0
+
+  entry-is : (b : ℕ) (x : Body) → Holds (byte-at f) (entry-at f b) (entry-bytes x) → Entry b x
+  entry-is b x (more e0 (more e1 (more e2 (more e3 none)))) =
+      record {
+        records-are = u16-is f (entry-at f b) (body-size x) (more e0 (more e1 none));
+        declarations-are = rw add-two e2;
+        last-is = rw add-three e3;
+      }
+
+  fields-are : (r : ℕ) (x : Fields) → Holds (byte-at f) (bodies-at f + 8 * r) (record-bytes x) → fields-at f r ≡ x
+  unfolding fields-at
+  fields-are r x (more e0 (more e1 (more e2 (more e3 (more e4 (more e5 (more e6 (more e7 none)))))))) =
+      let i = bodies-at f + 8 * r in
+      let p-is : u16-at f (i + 4) ≡ x .p = u16-is f (i + 4) (x .p) (rw add-four (more e4 (more e5 none))) in
+      let q-is : u16-at f (i + 6) ≡ x .q = u16-is f (i + 6) (x .q) (rw add-six (more e6 (more e7 none))) in
+      let side-is : byte-at f (i + 1) ≡ x .side = rw add-one e1 in
+      let array-is : byte-at f (i + 2) ≡ x .array = rw add-two e2 in
+      let zero-is : byte-at f (i + 3) ≡ x .zero = rw add-three e3 in
+      λ j. record { kind = e0 j; side = side-is j; array = array-is j; zero = zero-is j; p = p-is j; q = q-is j }
+
+abbrev no-body : Body
+no-body = record { declarations = 0; records = [] }
+
+module _ (f : List ℕ) (kind : ℕ) (arrays : Arrays) (bodies : List Body) (p : Parts f kind arrays bodies) where
+  lengths-held : Holds (length-at f) 0 arrays
+  unfolding length-at
+  lengths-held = each-so (λ a n h. u16-is f (4 + 2 * a) n h) (pieces u16-bytes 2 (λ n. refl) (byte-at f) 4 arrays 0 (p .lengths))
+
+  entries-held : Along (Entry f) 0 bodies
+  unfolding entry-at
+  entries-held =
+      each-so (entry-is f)
+      (pieces entry-bytes 4 (λ b. refl) (byte-at f) (4 + 2 * array-count f) bodies 0 (rw (add-zero, p .array-count-is) (p .entries)))
+
+  bodies-start : bodies-at f ≡ 4 + 2 * length arrays + 4 * length bodies
+  unfolding entry-at
+  bodies-start = rw (p .array-count-is, p .body-count-is)
+
+  arrays-are : arrays-of f ≡ arrays
+  unfolding arrays-of
+  arrays-are = rw (p .array-count-is) (table-is (length-at f) arrays lengths-held)
+
+  sizes-are : sizes-of f ≡ sizes bodies
+  unfolding sizes-of
+  sizes-are =
+      rw (p .body-count-is, ← length-map bodies body-size)
+      (table-is (records-in f) (sizes bodies) (along-map body-size (each-so (λ b x e. e .records-are) entries-held)))
+
+  records-held : (l : List Fields) (r : ℕ) → Holds (byte-at f) (bodies-at f + 8 * r) (joined record-bytes l) → Holds (fields-at f) r l
+  records-held l r h = each-so (fields-are f) (pieces record-bytes 8 (λ x. refl) (byte-at f) (bodies-at f) l r h)
+
+  bodies-held : (l : List Body) (r b : ℕ) → Holds (byte-at f) (bodies-at f + 8 * r) (joined body-bytes l) → b < length l → Holds (fields-at f) (r + first-of (sizes l) b) (getD l b no-body .records)
+  unfolding first-of
+  bodies-held [] r b h k = absurd (omega arith)
+  bodies-held (x ∷ l) r zero h k = rw add-zero (records-held (x .records) r (front-part (body-bytes x) (joined body-bytes l) h))
+  bodies-held (x ∷ l) r (suc b) h k =
+      let next : bodies-at f + 8 * r + length (body-bytes x) ≡ bodies-at f + 8 * (r + body-size x) = omega (arith, body-length x) in
+      rw (← add-assoc) (bodies-held l (r + body-size x) b (rw next at (back-part (body-bytes x) h)) (omega arith))
+
+-- "Records are numbered from 0 through all bodies in order": the sums of a list up to an entry
+first-of-start : (l : List ℕ) → first-of l 0 ≡ 0
+unfolding first-of
+first-of-start [] = refl
+first-of-start (n ∷ l) = refl
+
+first-of-next : (l : List ℕ) (b : ℕ) → b < length l → first-of l (suc b) ≡ first-of l b + getD l b 0
+unfolding first-of
+first-of-next [] b h = absurd (omega arith)
+first-of-next (n ∷ l) zero h = omega (arith, first-of-start l)
+first-of-next (n ∷ l) (suc b) h = omega (arith, first-of-next l b (omega arith))
+
+first-of-all : (l : List ℕ) → first-of l (length l) ≡ cells l
+unfolding first-of
+first-of-all [] = refl
+first-of-all (n ∷ l) = rw (first-of-all l)
+
+pub first-of-within : (l : List ℕ) (b : ℕ) → first-of l b ≤ cells l
+unfolding first-of
+first-of-within [] b = omega arith
+first-of-within (n ∷ l) zero = omega arith
+first-of-within (n ∷ l) (suc b) = omega (arith, first-of-within l b)
+
+-- a file with such arrays
+pub record Arrayed (f : List ℕ) (arrays : Arrays) : Type 0 where
+  pub counted : array-count f ≡ length arrays
+  pub held : Holds (length-at f) 0 arrays
+
+pub array-length : (f : List ℕ) (arrays : Arrays) → Arrayed f arrays → (a : ℕ) → a < length arrays → length-at f a ≡ length-of arrays a
+array-length f arrays p a h = rw zero-add at (at-place (p .held) 0 a h)
+
+-- body b of a file
+pub record Placed (f : List ℕ) (b : ℕ) (x : Body) : Type 0 where
+  pub entry : Entry f b x
+  pub next : first-record f (suc b) ≡ first-record f b + body-size x
+  pub held : Holds (fields-at f) (first-record f b) (x .records)
+
+-- a file with such contents
+pub record Laid (f : List ℕ) (kind : ℕ) (arrays : Arrays) (bodies : List Body) : Type 0 where
+  pub kind-is : kind-of f ≡ kind
+  pub arrayed : Arrayed f arrays
+  pub body-count-is : body-count f ≡ length bodies
+  pub zero-is : byte-at f 3 ≡ 0
+  pub arrays-are : arrays-of f ≡ arrays
+  pub start-is : first-record f 0 ≡ 0
+  pub count-is : record-count f ≡ cells (sizes bodies)
+  pub within : (b : ℕ) → first-record f b ≤ cells (sizes bodies)
+  pub placed : Along (Placed f) 0 bodies
+  pub bodies-start : bodies-at f ≡ 4 + 2 * length arrays + 4 * length bodies
+  pub long : length f ≡ bodies-at f + 8 * record-count f + 2
+  pub checked : checks-fit f ≡ true
+
+-- "Last two check bytes"
+checks-of : (s : List ℕ) → checks-fit (s ++ check-bytes s) ≡ true
+unfolding checks-fit check-bytes
+checks-of s =
+    let n-is : length (s ++ check-bytes s) - 2 ≡ length s = omega (arith, length-append s (check-bytes s)) in
+    rw (n-is, take-at s (check-bytes s) (length s) refl, getD-append-seam, getD-append-add s (check-bytes s) 1 0)
+    (and-in _ _ (eq-eqb (plain-sum s % 251) _ refl) (eq-eqb (weighted-sum 1 s % 251) _ refl))
+
+module _ (kind : ℕ) (arrays : Arrays) (bodies : List Body) where
+  abbrev f : List ℕ
+  f = file kind arrays bodies
+
+  -- all but the check bytes
+  abbrev summed : List ℕ
+  summed = front kind arrays bodies ++ joined body-bytes bodies
+
+  summed-length : length summed ≡ 4 + 2 * length arrays + 4 * length bodies + 8 * cells (sizes bodies)
+  summed-length = omega (arith, length-append (front kind arrays bodies) (joined body-bytes bodies), front-length kind arrays bodies, bodies-length bodies)
+
+  whole : Holds (byte-at f) 0 (summed ++ check-bytes summed)
+  unfolding file
+  whole = itself f
+
+  file-length : length f ≡ length summed + 2
+  unfolding file check-bytes
+  file-length = length-append summed (check-bytes summed)
+
+  checked : checks-fit f ≡ true
+  unfolding file
+  checked = checks-of summed
+
+  placed : Parts f kind arrays bodies → Along (Placed f) 0 bodies
+  placed p = along-of bodies 0 no-body (λ b h. rw zero-add (at-body b h))
+    where
+      at-body : (b : ℕ) → b < length bodies → Placed f b (getD bodies b no-body)
+      at-body b h =
+          let sizes-is : sizes-of f ≡ sizes bodies = sizes-are f kind arrays bodies p in
+          let start : Holds (byte-at f) (bodies-at f + 8 * 0) (joined body-bytes bodies) = rw (add-zero, bodies-start f kind arrays bodies p) (p .records) in
+          let inside : b < length (sizes bodies) = rw (length-map bodies body-size) h in
+          record {
+            entry = rw zero-add at (at-place (entries-held f kind arrays bodies p) no-body b h);
+            next = rw (sizes-is, ← List·getD-map body-size bodies b no-body) (first-of-next (sizes bodies) b inside);
+            held = rw sizes-is (rw zero-add at (bodies-held f kind arrays bodies p bodies 0 b start h));
+          }
+
+  pub laid : Laid f kind arrays bodies
+  laid =
+      let p = parts f kind arrays bodies (front-part summed (check-bytes summed) whole) in
+      let sizes-is : sizes-of f ≡ sizes bodies = sizes-are f kind arrays bodies p in
+      let count : record-count f ≡ cells (sizes bodies) = rw (sizes-is, p .body-count-is, ← length-map bodies body-size) (first-of-all (sizes bodies)) in
+      record {
+        kind-is = p .kind-is;
+        arrayed = record { counted = p .array-count-is; held = lengths-held f kind arrays bodies p };
+        body-count-is = p .body-count-is;
+        zero-is = p .zero-is;
+        arrays-are = arrays-are f kind arrays bodies p;
+        start-is = first-of-start (sizes-of f);
+        count-is = count;
+        within = λ b. rw sizes-is (first-of-within (sizes bodies) b);
+        placed = placed p;
+        bodies-start = bodies-start f kind arrays bodies p;
+        long = omega (arith, file-length, summed-length, bodies-start f kind arrays bodies p);
+        checked = checked;
+      }

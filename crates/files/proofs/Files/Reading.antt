@@ -1,0 +1,87 @@
+-- Reading back: the records of a block read as that block, numbered from its first record on.
+use mathlib.Core.Path.{_≡_, refl, _∙_}
+use mathlib.Core.Bool.{false}
+use Prim.Native.Nat.{ℕ, zero, suc, _+_, _≤_, _<_}
+use native.Mathlib.Omega.{arith}
+use native.Mathlib.Numerals.{add-one}
+use native.Mathlib.Nat.{add-zero}
+use lib.Dec.{eqb}
+use borrow.Author.Tests.{lt-ltb, le-ltb}
+use Rattle.model.specs.Sides.{Side, host, card}
+use Rattle.model.specs.Effects.{Action, read, write, copy, need, mark}
+use Rattle.model.specs.Blocks.{Block, size, numbered}
+use Rattle.reading.specs.declared.Fields.{Fields}
+use Rattle.reading.specs.Bytes.{first-arm, second-arm}
+use Rattle.format.specs.Plans.{side-of, action-of, block-of}
+use Rattle.files.specs.Files.{side-number, fields, action-fields, block-fields}
+use Rattle.files.proofs.Files.Holding.{more, Holds, front-part, back-at}
+use Rattle.files.proofs.Files.Records.{no-arms, fields-count}
+
+pub side-back : (s : Side) → side-of (side-number s) ≡ s
+side-back host = refl
+side-back card = refl
+
+action-back : (x : Action) → action-of (action-fields x) ≡ x
+unfolding action-of
+action-back (read s x) = rw (side-back s)
+action-back (write s x) = rw (side-back s)
+action-back (copy s x) = rw (side-back s)
+action-back (need s a) = rw (side-back s)
+action-back (mark s a) = rw (side-back s)
+
+-- an action is neither a branch nor a loop
+no-holder : (x : Action) → (eqb (action-fields x .kind) 6 ≡ false) × (eqb (action-fields x .kind) 7 ≡ false)
+no-holder (read s x) = (refl, refl)
+no-holder (write s x) = (refl, refl)
+no-holder (copy s x) = (refl, refl)
+no-holder (need s a) = (refl, refl)
+no-holder (mark s a) = (refl, refl)
+
+module _ (g : ℕ → Fields) where
+  reads-none : (fuel r end : ℕ) → end ≤ r → block-of fuel g r end ≡ Block.done
+  unfolding block-of
+  reads-none zero r end h = refl
+  reads-none (suc fuel) r end h = rw (le-ltb r end h)
+
+  module _ (fuel r end : ℕ) (h : r < end) where
+    reads-act : (x : Action) → g r ≡ action-fields x → block-of (suc fuel) g r end ≡ Block.act r x (block-of fuel g (suc r) end)
+    unfolding block-of
+    reads-act x e =
+        let next : suc r + 0 + 0 ≡ suc r = omega arith in
+        rw (lt-ltb r end h, e, no-holder x .0, no-holder x .1, no-arms x .0, no-arms x .1, add-one r, next, action-back x)
+
+    reads-branch : (n m : ℕ) → g r ≡ fields 6 0 0 n m
+        → block-of (suc fuel) g r end ≡ Block.branch r (block-of fuel g (suc r) (suc r + n)) (block-of fuel g (suc r + n) (suc r + n + m)) (block-of fuel g (suc r + n + m) end)
+    unfolding block-of first-arm second-arm
+    reads-branch n m e = rw (lt-ltb r end h, e, add-one r)
+
+    reads-loop : (n : ℕ) → g r ≡ fields 7 0 0 n 0 → block-of (suc fuel) g r end ≡ Block.loop r (block-of fuel g (suc r) (suc r + n)) (block-of fuel g (suc r + n) end)
+    unfolding block-of first-arm second-arm
+    reads-loop n e = rw (lt-ltb r end h, e, add-one r, add-zero)
+
+  pub block-reads : (x : Block) (fuel r : ℕ) → size x ≤ fuel → Holds g r (block-fields x) → block-of fuel g r (r + size x) ≡ numbered r x
+  block-reads Block.done fuel r k h = reads-none fuel r (r + 0) (omega arith)
+  block-reads (Block.act _ x t) zero r k h = absurd (omega arith)
+  block-reads (Block.act _ x t) (suc fuel) r k (more e h) =
+      let end : suc r + size t ≡ r + suc (size t) = omega arith in
+      reads-act fuel r (r + suc (size t)) (omega arith) x e ∙ rw (← end, block-reads t fuel (suc r) (omega arith) h)
+  block-reads (Block.branch _ x y t) zero r k h = absurd (omega arith)
+  block-reads (Block.branch _ x y t) (suc fuel) r k (more e h) =
+      let end : suc r + size x + size y + size t ≡ r + suc (size x + size y + size t) = omega arith in
+      let h′ = back-at (block-fields x) (size x) (fields-count x) h in
+      reads-branch fuel r (r + suc (size x + size y + size t)) (omega arith) (size x) (size y) e
+      ∙ rw (
+        ← end,
+        block-reads x fuel (suc r) (omega arith) (front-part (block-fields x) _ h),
+        block-reads y fuel (suc r + size x) (omega arith) (front-part (block-fields y) _ h′),
+        block-reads t fuel (suc r + size x + size y) (omega arith) (back-at (block-fields y) (size y) (fields-count y) h′),
+      )
+  block-reads (Block.loop _ x t) zero r k h = absurd (omega arith)
+  block-reads (Block.loop _ x t) (suc fuel) r k (more e h) =
+      let end : suc r + size x + size t ≡ r + suc (size x + size t) = omega arith in
+      reads-loop fuel r (r + suc (size x + size t)) (omega arith) (size x) e
+      ∙ rw (
+        ← end,
+        block-reads x fuel (suc r) (omega arith) (front-part (block-fields x) _ h),
+        block-reads t fuel (suc r + size x) (omega arith) (back-at (block-fields x) (size x) (fields-count x) h),
+      )

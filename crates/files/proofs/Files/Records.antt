@@ -1,0 +1,146 @@
+-- The rows of records pass where the records are those of a block within the bounds.
+use mathlib.Core.Path.{_≡_, refl}
+use mathlib.Core.Bool.{Bool, true, false, _&&_, false≢true}
+use mathlib.Core.List.{List, _++_}
+use Prim.Native.Nat.{ℕ, zero, suc, _+_, _≤_, _<_}
+use native.Mathlib.Omega.{arith}
+use native.Mathlib.Numerals.{add-one}
+use native.Mathlib.Nat.{add-zero}
+use lib.ListN.{length, length-append}
+use lib.Dec.{ltb, leb}
+use borrow.Author.Tests.{lt-ltb, le-ltb, ltb-true}
+use Rattle.model.specs.Sides.{Side, host, card, Arrays, Cells, length-of}
+use Rattle.model.specs.Effects.{Action, read, write, copy, need, mark}
+use Rattle.model.specs.Blocks.{Block, size}
+use Rattle.model.proofs.Booleans.{and-out}
+use Rattle.reading.specs.declared.Fields.{Fields}
+use Rattle.reading.specs.Bytes.{array-count, length-at, fields-at, between, first-arm, second-arm}
+use Rattle.records.specs.Records.{fields-fit, allowed, deepest, record-rows, block-rows}
+use Rattle.files.specs.Files.{side-number, fields, action-fields, block-fields}
+use Rattle.files.specs.Bounds.{cells-fit, action-fits, block-fits}
+use Rattle.files.proofs.Files.Holding.{more, Holds, front-part, back-at}
+use Rattle.files.proofs.Files.Places.{Arrayed, array-length}
+use Rattle.files.proofs.Files.Accepting.{Passes, passes-none, passes-row, passes-append}
+
+module _ (f : List ℕ) (b : ℕ) where
+  -- the rows of the records r up to `end` pass, whatever the fuel
+  abbrev pub Walks : ℕ → ℕ → ℕ → Type 0
+  Walks depth r end = (fuel : ℕ) → Passes (block-rows fuel f b depth r end)
+
+  pub at-end : (depth r end : ℕ) → end ≤ r → Walks depth r end
+  unfolding block-rows
+  at-end depth r end h zero = passes-none
+  at-end depth r end h (suc fuel) = rw (le-ltb r end h) passes-none
+
+  -- one record, its arms, the rest
+  module _ (depth r end : ℕ) (x : Fields) (x-is : fields-at f r ≡ x) (fits : fields-fit f x ≡ true) (may : allowed f b r x ≡ true) where
+    record-passes : r + 1 + first-arm x + second-arm x ≤ end → (between 6 7 (x .kind) && ltb (deepest f) depth) ≡ false → Passes (record-rows f b depth end r)
+    unfolding record-rows
+    record-passes inside shallow =
+        simp (x-is, fits, may, le-ltb end (r + 1 + first-arm x + second-arm x) inside, shallow) (passes-row _ _ _ _ refl (passes-row _ _ _ _ refl (passes-row _ _ _ _ refl passes-none)))
+
+    at-record : (n m : ℕ) → first-arm x ≡ n → second-arm x ≡ m → (between 6 7 (x .kind) && ltb (deepest f) depth) ≡ false → suc r + n + m ≤ end
+        → Walks (depth + 1) (suc r) (suc r + n) → Walks (depth + 1) (suc r + n) (suc r + n + m) → Walks depth (suc r + n + m) end → Walks depth r end
+    unfolding block-rows
+    at-record n m en em shallow inside one two rest zero = passes-none
+    at-record n m en em shallow inside one two rest (suc fuel) =
+        let h : r < end = omega arith in
+        let inside′ : r + 1 + first-arm x + second-arm x ≤ end = rw (add-one, en, em) inside in
+        rw (lt-ltb r end h)
+        (passes-append (record-rows f b depth end r) _ (record-passes inside′ shallow)
+        (rw (x-is, add-one r, en, em) (passes-append (block-rows fuel f b (depth + 1) (suc r) (suc r + n)) _ (one fuel)
+        (passes-append (block-rows fuel f b (depth + 1) (suc r + n) (suc r + n + m)) _ (two fuel) (rest fuel)))))
+
+    -- one that has no arms
+    pub at-plain : first-arm x ≡ 0 → second-arm x ≡ 0 → between 6 7 (x .kind) ≡ false → suc r ≤ end → Walks depth (suc r) end → Walks depth r end
+    at-plain e1 e2 k inside rest =
+        let s : suc r + 0 + 0 ≡ suc r = omega arith in
+        at-record 0 0 e1 e2 (rw k) (omega arith) (at-end _ _ _ (omega arith)) (at-end _ _ _ (omega arith)) (rw s rest)
+
+  -- a branch of n and m records, a loop of n: "inside at most .. others"
+  module _ (depth r end n : ℕ) (shallow : depth ≤ deepest f) where
+    pub at-branch : (m : ℕ) → fields-at f r ≡ fields 6 0 0 n m → allowed f b r (fields 6 0 0 n m) ≡ true → suc r + n + m ≤ end
+        → Walks (depth + 1) (suc r) (suc r + n) → Walks (depth + 1) (suc r + n) (suc r + n + m) → Walks depth (suc r + n + m) end → Walks depth r end
+    unfolding fields-fit first-arm second-arm
+    at-branch m x-is may = at-record depth r end (fields 6 0 0 n m) x-is refl may n m refl refl (le-ltb (deepest f) depth shallow)
+
+    pub at-loop : fields-at f r ≡ fields 7 0 0 n 0 → allowed f b r (fields 7 0 0 n 0) ≡ true → suc r + n ≤ end
+        → Walks (depth + 1) (suc r) (suc r + n) → Walks depth (suc r + n) end → Walks depth r end
+    unfolding fields-fit first-arm second-arm
+    at-loop x-is may inside one rest =
+        let s : suc r + n + 0 ≡ suc r + n = add-zero (suc r + n) in
+        at-record depth r end (fields 7 0 0 n 0) x-is refl may n 0 refl refl (le-ltb (deepest f) depth shallow) (omega arith) one (at-end _ _ _ (omega arith)) (rw s rest)
+
+-- "Side 0 is the host, side 1 the card."
+pub side-fits : (s : Side) → ltb (side-number s) 2 ≡ true
+side-fits host = refl
+side-fits card = refl
+
+-- the records of actions
+action-kind : (x : Action) → (between 1 7 (action-fields x .kind) ≡ true) × (between 6 7 (action-fields x .kind) ≡ false)
+action-kind (read s x) = (refl, refl)
+action-kind (write s x) = (refl, refl)
+action-kind (copy s x) = (refl, refl)
+action-kind (need s a) = (refl, refl)
+action-kind (mark s a) = (refl, refl)
+
+pub no-arms : (x : Action) → (first-arm (action-fields x) ≡ 0) × (second-arm (action-fields x) ≡ 0)
+unfolding first-arm second-arm
+no-arms (read s x) = (refl, refl)
+no-arms (write s x) = (refl, refl)
+no-arms (copy s x) = (refl, refl)
+no-arms (need s a) = (refl, refl)
+no-arms (mark s a) = (refl, refl)
+
+-- a block's records are as many as its size
+pub fields-count : (x : Block) → length (block-fields x) ≡ size x
+fields-count Block.done = refl
+fields-count (Block.act r x b) = rw (fields-count b)
+fields-count (Block.branch r x y b) =
+    omega (arith, fields-count x, fields-count y, fields-count b, length-append (block-fields x) (block-fields y ++ block-fields b), length-append (block-fields y) (block-fields b))
+fields-count (Block.loop r x b) = omega (arith, fields-count x, fields-count b, length-append (block-fields x) (block-fields b))
+
+-- where the arrays are these, and the records from `low` on may be of the kinds 1 to 7
+module _ (f : List ℕ) (b low : ℕ) (arrays : Arrays) (arrayed : Arrayed f arrays)
+    (may : (r : ℕ) (x : Fields) → low ≤ r → between 1 7 (x .kind) ≡ true → allowed f b r x ≡ true) where
+  abbrev ranged : Side → Cells → Bool
+  ranged s x = ltb (side-number s) 2 && ltb (x .array) (array-count f) && true && ltb (x .p) (x .q) && leb (x .q) (length-at f (x .array))
+
+  ranged-fit : (s : Side) (x : Cells) → cells-fit arrays x ≡ true → ranged s x ≡ true
+  ranged-fit s x e =
+      let h = and-out (ltb (x .array) (length arrays)) (ltb (x .p) (x .q) && leb (x .q) (length-of arrays (x .array))) e in
+      let k = and-out (ltb (x .p) (x .q)) (leb (x .q) (length-of arrays (x .array))) (h .1) in
+      rw (side-fits s, arrayed .counted, h .0, k .0, array-length f arrays arrayed (x .array) (ltb-true _ _ (h .0)), k .1)
+
+  action-fit : (x : Action) → action-fits arrays x ≡ true → fields-fit f (action-fields x) ≡ true
+  unfolding fields-fit
+  action-fit (read s x) e = ranged-fit s x e
+  action-fit (write s x) e = ranged-fit s x e
+  action-fit (copy s x) e = ranged-fit s x e
+  action-fit (need s a) e = rw (side-fits s, arrayed .counted, e)
+  action-fit (mark s a) e = rw (side-fits s, arrayed .counted, e)
+
+  pub block-walks : (x : Block) (levels depth r : ℕ) → block-fits arrays levels x ≡ true → depth + levels ≤ deepest f + 1 → low ≤ r → Holds (fields-at f) r (block-fields x) → Walks f b depth r (r + size x)
+  block-walks Block.done levels depth r e d l h = at-end f b depth r (r + 0) (omega arith)
+  block-walks (Block.act _ x t) levels depth r e d l (more x-is h) =
+      let fit = and-out (action-fits arrays x) (block-fits arrays levels t) e in
+      let next : suc r + size t ≡ r + suc (size t) = omega arith in
+      at-plain f b depth r (r + suc (size t)) (action-fields x) x-is (action-fit x (fit .0)) (may r (action-fields x) l (action-kind x .0)) (no-arms x .0) (no-arms x .1) (action-kind x .1) (omega arith)
+      (rw next at (block-walks t levels depth (suc r) (fit .1) d (omega arith) h))
+  block-walks (Block.branch _ x y t) zero depth r e d l h = absurd (false≢true e)
+  block-walks (Block.branch _ x y t) (suc levels) depth r e d l (more x-is h) =
+      let fit = and-out (block-fits arrays levels x) (block-fits arrays levels y && block-fits arrays (suc levels) t) e in
+      let fit′ = and-out (block-fits arrays levels y) (block-fits arrays (suc levels) t) (fit .1) in
+      let h′ = back-at (block-fields x) (size x) (fields-count x) h in
+      let next : suc r + size x + size y + size t ≡ r + suc (size x + size y + size t) = omega arith in
+      at-branch f b depth r (r + suc (size x + size y + size t)) (size x) (omega arith) (size y) x-is (may r (fields 6 0 0 (size x) (size y)) l refl) (omega arith)
+      (block-walks x levels (depth + 1) (suc r) (fit .0) (omega arith) (omega arith) (front-part (block-fields x) _ h))
+      (block-walks y levels (depth + 1) (suc r + size x) (fit′ .0) (omega arith) (omega arith) (front-part (block-fields y) _ h′))
+      (rw next at (block-walks t (suc levels) depth (suc r + size x + size y) (fit′ .1) d (omega arith) (back-at (block-fields y) (size y) (fields-count y) h′)))
+  block-walks (Block.loop _ x t) zero depth r e d l h = absurd (false≢true e)
+  block-walks (Block.loop _ x t) (suc levels) depth r e d l (more x-is h) =
+      let fit = and-out (block-fits arrays levels x) (block-fits arrays (suc levels) t) e in
+      let next : suc r + size x + size t ≡ r + suc (size x + size t) = omega arith in
+      at-loop f b depth r (r + suc (size x + size t)) (size x) (omega arith) x-is (may r (fields 7 0 0 (size x) 0) l refl) (omega arith)
+      (block-walks x levels (depth + 1) (suc r) (fit .0) (omega arith) (omega arith) (front-part (block-fields x) _ h))
+      (rw next at (block-walks t (suc levels) depth (suc r + size x) (fit .1) d (omega arith) (back-at (block-fields x) (size x) (fields-count x) h)))

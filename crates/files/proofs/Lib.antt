@@ -1,0 +1,5 @@
+-- The file of a plan opens as that plan, and its entries are bytes.
+pub mod Files
+pub mod RoundTrip
+pub mod Octets
+pub mod Examples

@@ -1,0 +1,226 @@
+-- The file of a plan within the bounds is a list of bytes: each entry is below 256.
+use mathlib.Core.Path.{_≡_}
+use mathlib.Core.Bool.{true, _&&_, false≢true}
+use mathlib.Core.List.{List, [], _∷_, _++_, map}
+use Prim.Native.Nat.{ℕ, zero, suc, _+_, _≤_, _<_}
+use native.Mathlib.Omega.{arith}
+use lib.ListN.{length, length-map}
+use lib.Dec.{ltb, leb}
+use borrow.Author.Tests.{ltb-true, leb-true}
+use Rattle.model.specs.Lists.{All}
+use Rattle.model.specs.Sides.{Side, host, card, Arrays, Cells, cells, length-of}
+use Rattle.model.specs.Effects.{Action, read, write, copy, need, mark}
+use Rattle.model.specs.Blocks.{Block, size, Plan}
+use Rattle.model.specs.Judging.{Mode, R, W, RW, Declaration, Pass, Body0, DeclaredPlan}
+use Rattle.model.proofs.Booleans.{and-out}
+use Rattle.reading.specs.declared.Fields.{Fields}
+use Rattle.sums.specs.Sums.{check-bytes}
+use Rattle.reading.specs.Bytes.{between}
+use Rattle.files.specs.Files.{u16-bytes, record-bytes, side-number, fields, action-fields, block-fields, size0, body0-fields, mode-kind, declaration-fields, Body, entry-bytes, joined, front, file, plain-file, pass-body, declared-file}
+use Rattle.files.specs.Bounds.{all, arrays-fit, cells-fit, action-fits, block-fits, body0-fits, plain-fits, pass-fits, passes-size, declared-fits}
+use Rattle.files.proofs.Files.Places.{body-size}
+use Rattle.files.proofs.Files.Accepting.{within-bounds}
+use Rattle.files.proofs.Files.Records.{fields-count}
+use Rattle.files.proofs.Files.Calling.{fields-count0}
+use Rattle.files.proofs.Files.Declaring.{pass-count}
+
+abbrev pub Bytes : List ℕ → Type 0
+Bytes l = All (λ x. x < 256) l
+
+module _ {A : Type 0} (P : A → Type 0) where
+  all-append : (l m : List A) → All P l → All P m → All P (l ++ m)
+  all-append [] m h k = k
+  all-append (x ∷ l) m h k = (h .0, all-append l m (h .1) k)
+
+bytes-append : (l m : List ℕ) → Bytes l → Bytes m → Bytes (l ++ m)
+bytes-append = all-append (λ x. x < 256)
+
+joined-bytes : {A : Type 0} (P : A → Type 0) (g : A → List ℕ) → ((x : A) → P x → Bytes (g x)) → (l : List A) → All P l → Bytes (joined g l)
+joined-bytes P g k [] h = tt
+joined-bytes P g k (x ∷ l) h = bytes-append (g x) (joined g l) (k x (h .0)) (joined-bytes P g k l (h .1))
+
+u16-fits : (n : ℕ) → n < 65536 → Bytes (u16-bytes n)
+u16-fits n h = (omega arith, (omega arith, tt))
+
+-- fields that eight bytes can hold
+record Small (x : Fields) : Type 0 where
+  kind : x .kind < 256
+  side : x .side < 256
+  array : x .array < 256
+  last : x .zero < 256
+  p : x .p < 65536
+  q : x .q < 65536
+
+record-fits : (x : Fields) → Small x → Bytes (record-bytes x)
+record-fits x h = (h .kind, (h .side, (h .array, (h .last, bytes-append (u16-bytes (x .p)) (u16-bytes (x .q)) (u16-fits (x .p) (h .p)) (u16-fits (x .q) (h .q))))))
+
+-- a body that its entry can tell of
+record Told (b : Body) : Type 0 where
+  few-declarations : b .declarations < 256
+  few-records : body-size b < 65536
+  small : All Small (b .records)
+
+entry-fits : (b : Body) → Told b → Bytes (entry-bytes b)
+entry-fits b h = bytes-append (u16-bytes (body-size b)) (b .declarations ∷ 0 ∷ []) (u16-fits (body-size b) (h .few-records)) (h .few-declarations, (omega arith, tt))
+
+body-fits : (b : Body) → Told b → Bytes (joined record-bytes (b .records))
+body-fits b h = joined-bytes Small record-bytes record-fits (b .records) (h .small)
+
+checks-small : (s : List ℕ) → Bytes (check-bytes s)
+unfolding check-bytes
+checks-small s = (omega arith, (omega arith, tt))
+
+file-bytes : (kind : ℕ) (arrays : Arrays) (bodies : List Body) → kind < 256 → length arrays < 256 → length bodies < 256 → All (λ n. n < 65536) arrays → All Told bodies → Bytes (file kind arrays bodies)
+unfolding file
+file-bytes kind arrays bodies k n m lengths told =
+    let lengths-fit = joined-bytes (λ x. x < 65536) u16-bytes u16-fits arrays lengths in
+    let entries-fit = joined-bytes Told entry-bytes entry-fits bodies told in
+    let contents = bytes-append (joined u16-bytes arrays) (joined entry-bytes bodies) lengths-fit entries-fit in
+    let bodies-fit = joined-bytes Told (λ b. joined record-bytes (b .records)) body-fits bodies told in
+    let summed = front kind arrays bodies ++ joined (λ (b : Body). joined record-bytes (b .records)) bodies in
+    bytes-append summed (check-bytes summed)
+    (bytes-append (front kind arrays bodies) (joined (λ (b : Body). joined record-bytes (b .records)) bodies) (k, (n, (m, (omega arith, contents)))) bodies-fit)
+    (checks-small summed)
+
+side-small : (s : Side) → side-number s < 256
+side-small host = omega arith
+side-small card = omega arith
+
+mode-small : (m : Mode) → mode-kind m < 256
+mode-small R = omega arith
+mode-small W = omega arith
+mode-small RW = omega arith
+
+-- an array is no longer than all arrays together
+length-small : (arrays : Arrays) (a : ℕ) → length-of arrays a ≤ cells arrays
+length-small [] a = omega arith
+length-small (n ∷ arrays) zero = omega arith
+length-small (n ∷ arrays) (suc a) = omega (arith, length-small arrays a)
+
+lengths-small : (arrays : Arrays) → cells arrays ≤ 4096 → All (λ n. n < 65536) arrays
+lengths-small [] h = tt
+lengths-small (n ∷ arrays) h = (omega arith, lengths-small arrays (omega arith))
+
+small : (kind side array p q : ℕ) → kind < 256 → side < 256 → array < 256 → p < 65536 → q < 65536 → Small (fields kind side array p q)
+small kind side array p q h0 h1 h2 h3 h4 = record { kind = h0; side = h1; array = h2; last = omega arith; p = h3; q = h4 }
+
+module _ (arrays : Arrays) (few : length arrays ≤ 32) (total : cells arrays ≤ 4096) where
+  cells-small : (kind : ℕ) (s : Side) (x : Cells) → kind < 256 → cells-fit arrays x ≡ true → Small (fields kind (side-number s) (x .array) (x .p) (x .q))
+  cells-small kind s x k e =
+      let h = and-out (ltb (x .array) (length arrays)) (ltb (x .p) (x .q) && leb (x .q) (length-of arrays (x .array))) e in
+      let h′ = and-out (ltb (x .p) (x .q)) (leb (x .q) (length-of arrays (x .array))) (h .1) in
+      let a : x .array < length arrays = ltb-true _ _ (h .0) in
+      let p : x .p < x .q = ltb-true _ _ (h′ .0) in
+      let q : x .q ≤ length-of arrays (x .array) = leb-true _ _ (h′ .1) in
+      let n = length-small arrays (x .array) in
+      small kind (side-number s) (x .array) (x .p) (x .q) k (side-small s) (omega arith) (omega arith) (omega arith)
+
+  array-small : (kind : ℕ) (s : Side) (a : ℕ) → kind < 256 → ltb a (length arrays) ≡ true → Small (fields kind (side-number s) a 0 0)
+  array-small kind s a k e = let h : a < length arrays = ltb-true _ _ e in small kind (side-number s) a 0 0 k (side-small s) (omega arith) (omega arith) (omega arith)
+
+  action-small : (x : Action) → action-fits arrays x ≡ true → Small (action-fields x)
+  action-small (read s x) e = cells-small 1 s x (omega arith) e
+  action-small (write s x) e = cells-small 2 s x (omega arith) e
+  action-small (copy s x) e = cells-small 3 s x (omega arith) e
+  action-small (need s a) e = array-small 4 s a (omega arith) e
+  action-small (mark s a) e = array-small 5 s a (omega arith) e
+
+  block-small : (x : Block) (levels : ℕ) → block-fits arrays levels x ≡ true → size x ≤ 1024 → All Small (block-fields x)
+  block-small Block.done levels e h = tt
+  block-small (Block.act _ x t) levels e h =
+      let fit = and-out (action-fits arrays x) (block-fits arrays levels t) e in
+      (action-small x (fit .0), block-small t levels (fit .1) (omega arith))
+  block-small (Block.branch _ x y t) zero e h = absurd (false≢true e)
+  block-small (Block.branch _ x y t) (suc levels) e h =
+      let fit = and-out (block-fits arrays levels x) (block-fits arrays levels y && block-fits arrays (suc levels) t) e in
+      let fit′ = and-out (block-fits arrays levels y) (block-fits arrays (suc levels) t) (fit .1) in (
+        small 6 0 0 (size x) (size y) (omega arith) (omega arith) (omega arith) (omega arith) (omega arith),
+        all-append Small (block-fields x) (block-fields y ++ block-fields t) (block-small x levels (fit .0) (omega arith))
+            (all-append Small (block-fields y) (block-fields t) (block-small y levels (fit′ .0) (omega arith)) (block-small t (suc levels) (fit′ .1) (omega arith))),
+      )
+  block-small (Block.loop _ x t) zero e h = absurd (false≢true e)
+  block-small (Block.loop _ x t) (suc levels) e h =
+      let fit = and-out (block-fits arrays levels x) (block-fits arrays (suc levels) t) e in (
+        small 7 0 0 (size x) 0 (omega arith) (omega arith) (omega arith) (omega arith) (omega arith),
+        all-append Small (block-fields x) (block-fields t) (block-small x levels (fit .0) (omega arith)) (block-small t (suc levels) (fit .1) (omega arith)),
+      )
+
+  declarations-small : (ds : List Declaration) → all (λ (d : Declaration). ltb (d .array) (length arrays)) ds ≡ true → All Small (map declaration-fields ds)
+  declarations-small [] e = tt
+  declarations-small (d ∷ ds) e =
+      let fit = and-out (ltb (d .array) (length arrays)) (all (λ (c : Declaration). ltb (c .array) (length arrays)) ds) e in
+      (array-small (mode-kind (d .mode)) (d .side) (d .array) (mode-small (d .mode)) (fit .0), declarations-small ds (fit .1))
+
+  passes-told : (ps : List Pass) → all (pass-fits arrays) ps ≡ true → passes-size ps ≤ 1024 → All Told (map pass-body ps)
+  passes-told [] e h = tt
+  passes-told (p ∷ ps) e h =
+      let (one, others) = and-out (pass-fits arrays p) (all (pass-fits arrays) ps) e in
+      let (few-declarations, fit) = and-out (leb (length (p .declarations)) 255) _ one in
+      let (of-arrays, block-fit) = and-out (all (λ (d : Declaration). ltb (d .array) (length arrays)) (p .declarations)) _ fit in
+      let told : Told (pass-body p) = record {
+        few-declarations = omega (arith, leb-true (length (p .declarations)) 255 few-declarations);
+        few-records = omega (arith, pass-count p);
+        small =
+            all-append Small (map declaration-fields (p .declarations)) (block-fields (p .body)) (declarations-small (p .declarations) of-arrays)
+            (block-small (p .body) 8 block-fit (omega arith));
+      } in
+      (told, passes-told ps others (omega arith))
+
+body0-small : (last : ℕ) → last ≤ 31 → (x : Body0) (levels : ℕ) → body0-fits last levels x ≡ true → size0 x ≤ 1024 → All Small (body0-fields x)
+body0-small last l Body0.done levels e h = tt
+body0-small last l (Body0.call b t) levels e h =
+    let fit = and-out (between 1 last b) (body0-fits last levels t) e in
+    let bound = within-bounds 1 last b (fit .0) in
+    (small 8 0 0 b 0 (omega arith) (omega arith) (omega arith) (omega arith) (omega arith), body0-small last l t levels (fit .1) (omega arith))
+body0-small last l (Body0.branch x y t) zero e h = absurd (false≢true e)
+body0-small last l (Body0.branch x y t) (suc levels) e h =
+    let fit = and-out (body0-fits last levels x) (body0-fits last levels y && body0-fits last (suc levels) t) e in
+    let fit′ = and-out (body0-fits last levels y) (body0-fits last (suc levels) t) (fit .1) in (
+      small 6 0 0 (size0 x) (size0 y) (omega arith) (omega arith) (omega arith) (omega arith) (omega arith),
+      all-append Small (body0-fields x) (body0-fields y ++ body0-fields t) (body0-small last l x levels (fit .0) (omega arith))
+          (all-append Small (body0-fields y) (body0-fields t) (body0-small last l y levels (fit′ .0) (omega arith)) (body0-small last l t (suc levels) (fit′ .1) (omega arith))),
+    )
+body0-small last l (Body0.loop x t) zero e h = absurd (false≢true e)
+body0-small last l (Body0.loop x t) (suc levels) e h =
+    let fit = and-out (body0-fits last levels x) (body0-fits last (suc levels) t) e in (
+      small 7 0 0 (size0 x) 0 (omega arith) (omega arith) (omega arith) (omega arith) (omega arith),
+      all-append Small (body0-fields x) (body0-fields t) (body0-small last l x levels (fit .0) (omega arith)) (body0-small last l t (suc levels) (fit .1) (omega arith)),
+    )
+
+arrays-small : (arrays : Arrays) → arrays-fit arrays ≡ true → (length arrays ≤ 32) × (cells arrays ≤ 4096)
+arrays-small arrays e =
+    let h = and-out (between 1 32 (length arrays)) (all (between 1 4096) arrays && leb (cells arrays) 4096) e in
+    (within-bounds 1 32 (length arrays) (h .0) .1, leb-true _ _ (and-out (all (between 1 4096) arrays) (leb (cells arrays) 4096) (h .1) .1))
+
+pub plain-bytes : (plan : Plan) → plain-fits plan ≡ true → Bytes (plain-file plan)
+plain-bytes plan fits =
+    let (arrays-in, h) = and-out (arrays-fit (plan .arrays)) _ fits in
+    let (block-in, few-records) = and-out (block-fits (plan .arrays) 16 (plan .body)) _ h in
+    let (few, total) = arrays-small (plan .arrays) arrays-in in
+    let sized : size (plan .body) ≤ 1024 = leb-true _ _ few-records in
+    file-bytes 2 (plan .arrays) _ (omega arith) (omega arith) (omega arith) (lengths-small (plan .arrays) total) (
+      record {
+        few-declarations = omega arith;
+        few-records = omega (arith, fields-count (plan .body));
+        small = block-small (plan .arrays) few total (plan .body) 16 block-in sized;
+      },
+      tt,
+    )
+
+pub declared-bytes : (plan : DeclaredPlan) → declared-fits plan ≡ true → Bytes (declared-file plan)
+declared-bytes plan fits =
+    let (arrays-in, h) = and-out (arrays-fit (plan .arrays)) _ fits in
+    let (few-passes, h′) = and-out (leb (length (plan .passes)) 31) _ h in
+    let (body0-in, h″) = and-out (body0-fits (length (plan .passes)) 8 (plan .body0)) _ h′ in
+    let (passes-in, few-records) = and-out (all (pass-fits (plan .arrays)) (plan .passes)) _ h″ in
+    let (few, total) = arrays-small (plan .arrays) arrays-in in
+    let last : length (plan .passes) ≤ 31 = leb-true _ _ few-passes in
+    let sized : size0 (plan .body0) + passes-size (plan .passes) ≤ 1024 = leb-true _ _ few-records in
+    file-bytes 1 (plan .arrays) _ (omega arith) (omega arith) (omega (arith, length-map (plan .passes) pass-body)) (lengths-small (plan .arrays) total) (
+      record {
+        few-declarations = omega arith;
+        few-records = omega (arith, fields-count0 (plan .body0));
+        small = body0-small (length (plan .passes)) last (plan .body0) 8 body0-in (omega arith);
+      },
+      passes-told (plan .arrays) few total (plan .passes) passes-in (omega arith),
+    )

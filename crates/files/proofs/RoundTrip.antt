@@ -1,0 +1,140 @@
+-- The file of a plan within the bounds opens, and as that plan: `plain-round-trip`, `declared-round-trip`.
+use mathlib.Core.Path.{_≡_, refl, _∙_}
+use mathlib.Core.Bool.{true}
+use mathlib.Core.List.{List, [], _∷_, map}
+use Prim.Native.Nat.{ℕ, suc, _+_, _*_, _-_, _≤_}
+use native.Mathlib.Omega.{arith}
+use native.Mathlib.Nat.{zero-add}
+use lib.ListN.{length, length-map}
+use lib.Dec.{leb}
+use borrow.Author.Tests.{leb-true, le-leb}
+use Rattle.model.specs.declared.Verdict.the-variants.{Accepted}
+use Rattle.model.specs.Blocks.{size, Plan}
+use Rattle.model.specs.Judging.{DeclaredPlan}
+use Rattle.model.proofs.Booleans.{and-out, and-in}
+use Rattle.reading.specs.Bytes.{kind-of, body-count, table, records-in, first-record, record-count, fields-at}
+use Rattle.records.specs.Records.{allowed, deepest, records-rows}
+use Rattle.format.specs.Opening.{opening}
+use Rattle.format.specs.Plans.{pass-at, plan-of, declared-plan-of}
+use Rattle.files.specs.Files.{block-fields, size0, body0-fields, Body, plain-file, pass-body, declared-file}
+use Rattle.files.specs.Bounds.{all, arrays-fit, block-fits, body0-fits, plain-fits, pass-fits, passes-size, declared-fits, numbered-passes, numbered-plan, numbered-declared}
+use Rattle.files.proofs.Files.Holding.{Along, none, more, Holds, head-of, tail-of, down, table-is}
+use Rattle.files.proofs.Files.Places.{Placed, Laid, laid}
+use Rattle.files.proofs.Files.Accepting.{Passes, opens}
+use Rattle.files.proofs.Files.Records.{fields-count, block-walks}
+use Rattle.files.proofs.Files.Reading.{block-reads}
+use Rattle.files.proofs.Files.Calling.{fields-count0, body0-walks, body0-reads}
+use Rattle.files.proofs.Files.Declaring.{passes-count, passes-entries, passes-walk, passes-read, numbered-count}
+
+-- a plain plan
+module _ (plan : Plan) where
+  abbrev plain-body : Body
+  plain-body = record { declarations = 0; records = block-fields (plan .body) }
+
+  abbrev plain : List ℕ
+  plain = plain-file plan
+
+  plain-laid : Laid plain 2 (plan .arrays) (plain-body ∷ [])
+  plain-laid = laid 2 (plan .arrays) (plain-body ∷ [])
+
+  pub plain-kind : kind-of (plain-file plan) ≡ 2
+  plain-kind = plain-laid .kind-is
+
+  -- all records are those of the one body
+  plain-count : record-count plain ≡ size (plan .body)
+  plain-count = plain-laid .count-is ∙ omega (arith, fields-count (plan .body))
+
+  pub plain-length : length (plain-file plan) ≡ 4 + 2 * length (plan .arrays) + 4 + 8 * size (plan .body) + 2
+  plain-length = omega (arith, plain-laid .long, plain-laid .bodies-start, plain-count)
+
+  plain-placed : Placed plain 0 plain-body
+  plain-placed = head-of (plain-laid .placed)
+
+  plain-held : Holds (fields-at plain) 0 (block-fields (plan .body))
+  plain-held = rw (plain-laid .start-is) at (plain-placed .held)
+
+  plain-records : block-fits (plan .arrays) 16 (plan .body) ≡ true → Passes (records-rows plain 0)
+  unfolding records-rows deepest allowed
+  plain-records fits =
+      let end : first-record plain 1 ≡ 0 + size (plan .body) = rw (plain-laid .start-is, fields-count (plan .body)) at (plain-placed .next) in
+      let deep : deepest plain ≡ 15 = rw (plain-laid .kind-is) in
+      rw (end, plain-laid .start-is)
+      (block-walks plain 0 0 (plan .arrays) (plain-laid .arrayed) (λ r x k e. rw (plain-laid .kind-is, e)) (plan .body) 16 0 0 fits (omega arith) (omega arith) plain-held (records-in plain 0))
+
+  pub plain-round-trip : plain-fits plan ≡ true → (opening (plain-file plan) ≡ Accepted) × (plan-of (plain-file plan) ≡ numbered-plan plan)
+  unfolding plan-of
+  plain-round-trip fits =
+      let (arrays-in, h) = and-out (arrays-fit (plan .arrays)) _ fits in
+      let (block-in, few-records) = and-out (block-fits (plan .arrays) 16 (plan .body)) _ h in
+      let few : size (plan .body) ≤ 1024 = leb-true _ _ few-records in
+      let read-back = rw zero-add at (block-reads (fields-at plain) (plan .body) (size (plan .body)) 0 (omega arith) plain-held) in (
+        opens plain 2 (plan .arrays) (plain-body ∷ []) plain-laid refl arrays-in refl refl (omega (arith, fields-count (plan .body)))
+            (more (record { declared = omega arith; none-first = refl }) none) (more (plain-records block-in) none),
+        rw (plain-count, plain-laid .arrays-are, read-back),
+      )
+
+-- a declared plan
+module _ (plan : DeclaredPlan) where
+  abbrev first-body : Body
+  first-body = record { declarations = 0; records = body0-fields (plan .body0) }
+
+  abbrev bodies : List Body
+  bodies = first-body ∷ map pass-body (plan .passes)
+
+  abbrev declared : List ℕ
+  declared = declared-file plan
+
+  declared-laid : Laid declared 1 (plan .arrays) bodies
+  declared-laid = laid 1 (plan .arrays) bodies
+
+  pub declared-kind : kind-of (declared-file plan) ≡ 1
+  declared-kind = declared-laid .kind-is
+
+  placed0 : Placed declared 0 first-body
+  placed0 = head-of (declared-laid .placed)
+
+  placed-passes : Along (Placed declared) 1 (map pass-body (plan .passes))
+  placed-passes = tail-of (declared-laid .placed)
+
+  held0 : Holds (fields-at declared) 0 (body0-fields (plan .body0))
+  held0 = rw (declared-laid .start-is) at (placed0 .held)
+
+  -- the passes begin after body 0
+  passes-start : first-record declared 1 ≡ 0 + size0 (plan .body0)
+  passes-start = rw (declared-laid .start-is, fields-count0 (plan .body0)) at (placed0 .next)
+
+  counted-bodies : body-count declared ≡ suc (length (plan .passes))
+  counted-bodies = rw (length-map (plan .passes) pass-body) at (declared-laid .body-count-is)
+
+  body0-records : body0-fits (length (plan .passes)) 8 (plan .body0) ≡ true → Passes (records-rows declared 0)
+  unfolding records-rows deepest allowed
+  body0-records fits =
+      let deep : deepest declared ≡ 7 = rw (declared-laid .kind-is) in
+      rw (passes-start, declared-laid .start-is)
+      (body0-walks declared (length (plan .passes)) counted-bodies (λ r x e. rw (declared-laid .kind-is, e)) (plan .body0) 8 0 0 fits (omega arith) held0 (records-in declared 0))
+
+  passes-back : table (λ b. pass-at declared (suc b)) (body-count declared - 1) ≡ numbered-passes (size0 (plan .body0)) (plan .passes)
+  passes-back =
+      let r = size0 (plan .body0) in
+      let count : body-count declared - 1 ≡ length (numbered-passes r (plan .passes)) = omega (arith, counted-bodies, numbered-count (plan .passes) r) in
+      let start : first-record declared 1 ≡ r = rw zero-add at passes-start in
+      rw count (table-is (λ b. pass-at declared (suc b)) (numbered-passes r (plan .passes)) (down (passes-read declared (plan .passes) 1 r start placed-passes)))
+
+  pub declared-round-trip : declared-fits plan ≡ true → (opening (declared-file plan) ≡ Accepted) × (declared-plan-of (declared-file plan) ≡ numbered-declared plan)
+  unfolding declared-plan-of
+  declared-round-trip fits =
+      let (arrays-in, h) = and-out (arrays-fit (plan .arrays)) _ fits in
+      let (few-passes, h′) = and-out (leb (length (plan .passes)) 31) _ h in
+      let (body0-in, h″) = and-out (body0-fits (length (plan .passes)) 8 (plan .body0)) _ h′ in
+      let (passes-in, few-records) = and-out (all (pass-fits (plan .arrays)) (plan .passes)) _ h″ in
+      let few-bodies : length bodies ≤ 32 = omega (arith, leb-true (length (plan .passes)) 31 few-passes, length-map (plan .passes) pass-body) in
+      let few : size0 (plan .body0) + passes-size (plan .passes) ≤ 1024 = leb-true _ _ few-records in
+      let records-are : records-in declared 0 ≡ size0 (plan .body0) = placed0 .entry .records-are ∙ fields-count0 (plan .body0) in
+      let read-back = rw zero-add at (body0-reads (fields-at declared) (plan .body0) (size0 (plan .body0)) 0 (omega arith) held0) in (
+        opens declared 1 (plan .arrays) bodies declared-laid refl arrays-in (and-in _ _ (le-leb 1 (length bodies) (omega arith)) (le-leb (length bodies) 32 few-bodies)) refl
+            (omega (arith, fields-count0 (plan .body0), passes-count (plan .passes)))
+            (more (record { declared = omega arith; none-first = refl }) (passes-entries (plan .passes) 1 refl))
+            (more (body0-records body0-in)
+            (passes-walk declared (plan .arrays) (declared-laid .kind-is) (declared-laid .arrayed) (plan .passes) 1 refl passes-in placed-passes)),
+        rw (records-are, declared-laid .arrays-are, read-back, passes-back),
+      )

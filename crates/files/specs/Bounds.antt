@@ -1,0 +1,92 @@
+-- The plans that a file can hold (document 01, 'The plan file'): its bounds, said of plans.
+use Prim.Native.Nat.{ℕ, zero, suc, _+_}
+use mathlib.Core.Bool.{Bool, true, false, _&&_}
+use mathlib.Core.List.{List, [], _∷_}
+use lib.ListN.{length}
+use lib.Dec.{ltb, leb}
+use Rattle.model.specs.Sides.{Arrays, cells, length-of, Cells}
+use Rattle.model.specs.Effects.{Action, read, write, copy, need, mark}
+use Rattle.model.specs.Blocks.{Block, size, numbered, Plan}
+use Rattle.model.specs.Judging.{Declaration, Pass, Body0, DeclaredPlan}
+use Rattle.reading.specs.Bytes.{between}
+use Rattle.files.specs.Files.{size0}
+
+-- whether each of the list passes the test
+abbrev pub all : {A : Type 0} → (A → Bool) → List A → Bool
+all g [] = true
+all g (x ∷ l) = g x && all g l
+
+-- "arrays, 1 to 32", "per array its length .., 1 to 4,096, together at most 4,096"
+abbrev pub arrays-fit : Arrays → Bool
+arrays-fit arrays = between 1 32 (length arrays) && (all (between 1 4096) arrays && leb (cells arrays) 4096)
+
+-- "cells P to Q − 1 of the array, P < Q ≤ its length"
+abbrev pub cells-fit : Arrays → Cells → Bool
+cells-fit arrays x = ltb (x .array) (length arrays) && (ltb (x .p) (x .q) && leb (x .q) (length-of arrays (x .array)))
+
+-- the fields of kinds 1 to 5: cells of an array, or the array alone
+abbrev pub action-fits : Arrays → Action → Bool
+action-fits arrays (read s x) = cells-fit arrays x
+action-fits arrays (write s x) = cells-fit arrays x
+action-fits arrays (copy s x) = cells-fit arrays x
+action-fits arrays (need s a) = ltb a (length arrays)
+action-fits arrays (mark s a) = ltb a (length arrays)
+
+-- a block in which branches and loops stand at most `levels` deep: 16 in a plain plan ("inside at most 15 others"), 8 in a body of a declared plan
+abbrev pub block-fits : Arrays → ℕ → Block → Bool
+block-fits arrays levels Block.done = true
+block-fits arrays levels (Block.act r x b) = action-fits arrays x && block-fits arrays levels b
+block-fits arrays zero (Block.branch r x y b) = false
+block-fits arrays (suc levels) (Block.branch r x y b) = block-fits arrays levels x && (block-fits arrays levels y && block-fits arrays (suc levels) b)
+block-fits arrays zero (Block.loop r x b) = false
+block-fits arrays (suc levels) (Block.loop r x b) = block-fits arrays levels x && block-fits arrays (suc levels) b
+
+-- the same of body 0, whose calls are of bodies "1 to the last"
+abbrev pub body0-fits : ℕ → ℕ → Body0 → Bool
+body0-fits last levels Body0.done = true
+body0-fits last levels (Body0.call b t) = between 1 last b && body0-fits last levels t
+body0-fits last zero (Body0.branch x y t) = false
+body0-fits last (suc levels) (Body0.branch x y t) = body0-fits last levels x && (body0-fits last levels y && body0-fits last (suc levels) t)
+body0-fits last zero (Body0.loop x t) = false
+body0-fits last (suc levels) (Body0.loop x t) = body0-fits last levels x && body0-fits last (suc levels) t
+
+-- a plain plan: "records .. together at most 1,024"
+abbrev pub plain-fits : Plan → Bool
+plain-fits plan = arrays-fit (plan .arrays) && (block-fits (plan .arrays) 16 (plan .body) && leb (size (plan .body)) 1024)
+
+-- "its declarations (one byte)"
+abbrev pub pass-fits : Arrays → Pass → Bool
+pass-fits arrays p =
+    leb (length (p .declarations)) 255
+    && (all (λ (d : Declaration). ltb (d .array) (length arrays)) (p .declarations) && block-fits arrays 8 (p .body))
+
+-- the records of a pass, its declarations among them
+abbrev pub pass-size : Pass → ℕ
+pass-size p = length (p .declarations) + size (p .body)
+
+-- the records of all passes
+abbrev pub passes-size : List Pass → ℕ
+passes-size [] = 0
+passes-size (p ∷ ps) = pass-size p + passes-size ps
+
+-- a declared plan: "bodies, 1 to 32", "records .. together at most 1,024"
+abbrev pub declared-fits : DeclaredPlan → Bool
+declared-fits plan =
+    arrays-fit (plan .arrays)
+    && (leb (length (plan .passes)) 31
+    && (body0-fits (length (plan .passes)) 8 (plan .body0)
+    && (all (pass-fits (plan .arrays)) (plan .passes) && leb (size0 (plan .body0) + passes-size (plan .passes)) 1024)))
+
+-- "Records are numbered from 0 through all bodies in order": the passes with their records numbered from r on
+abbrev pub numbered-passes : ℕ → List Pass → List Pass
+numbered-passes r [] = []
+numbered-passes r (p ∷ ps) =
+    record { declarations = p .declarations; body = numbered (r + length (p .declarations)) (p .body) } ∷ numbered-passes (r + pass-size p) ps
+
+-- a plan as its file numbers its records
+abbrev pub numbered-plan : Plan → Plan
+numbered-plan plan = record { arrays = plan .arrays; body = numbered 0 (plan .body) }
+
+-- a declared plan as its file numbers its records: body 0 first, then the passes
+abbrev pub numbered-declared : DeclaredPlan → DeclaredPlan
+numbered-declared plan = record { arrays = plan .arrays; body0 = plan .body0; passes = numbered-passes (size0 (plan .body0)) (plan .passes) }

@@ -1,0 +1,103 @@
+-- From a plan back to the bytes of its file (document 01, 'The plan file').
+use Prim.Native.Nat.{ℕ, zero, suc, _+_, _/_, _%_}
+use mathlib.Core.List.{List, [], _∷_, _++_, map}
+use lib.ListN.{length}
+use Rattle.model.specs.Sides.{Side, host, card, Arrays}
+use Rattle.model.specs.Effects.{Action, read, write, copy, need, mark}
+use Rattle.model.specs.Blocks.{Block, size, Plan}
+use Rattle.model.specs.Judging.{Mode, R, W, RW, Declaration, Pass, Body0, DeclaredPlan}
+use Rattle.reading.specs.declared.Fields.{Fields}
+use Rattle.sums.specs.Sums.{check-bytes}
+
+-- "Numbers of two bytes have the low byte first."
+abbrev pub u16-bytes : ℕ → List ℕ
+u16-bytes n = n % 256 ∷ n / 256 ∷ []
+
+-- "A record: kind, side, array, zero, then two numbers of two bytes, P and Q."
+abbrev pub record-bytes : Fields → List ℕ
+record-bytes x = x .kind ∷ x .side ∷ x .array ∷ x .zero ∷ (u16-bytes (x .p) ++ u16-bytes (x .q))
+
+-- "Side 0 is the host, side 1 the card."
+abbrev pub side-number : Side → ℕ
+side-number host = 0
+side-number card = 1
+
+-- a record from its fields, the fourth byte zero
+abbrev pub fields : ℕ → ℕ → ℕ → ℕ → ℕ → Fields
+fields kind side array p q = record { kind = kind; side = side; array = array; zero = 0; p = p; q = q }
+
+-- "1 read, 2 write, 3 copy .. 4 need, 5 mark"
+abbrev pub action-fields : Action → Fields
+action-fields (read s x) = fields 1 (side-number s) (x .array) (x .p) (x .q)
+action-fields (write s x) = fields 2 (side-number s) (x .array) (x .p) (x .q)
+action-fields (copy s x) = fields 3 (side-number s) (x .array) (x .p) (x .q)
+action-fields (need s a) = fields 4 (side-number s) a 0 0
+action-fields (mark s a) = fields 5 (side-number s) a 0 0
+
+-- "6 branch: P records of the first arm, then Q of the second. 7 loop: P records."
+abbrev pub block-fields : Block → List Fields
+block-fields Block.done = []
+block-fields (Block.act r x b) = action-fields x ∷ block-fields b
+block-fields (Block.branch r x y b) = fields 6 0 0 (size x) (size y) ∷ (block-fields x ++ (block-fields y ++ block-fields b))
+block-fields (Block.loop r x b) = fields 7 0 0 (size x) 0 ∷ (block-fields x ++ block-fields b)
+
+-- how many records a part of body 0 has
+abbrev pub size0 : Body0 → ℕ
+size0 Body0.done = 0
+size0 (Body0.call b t) = suc (size0 t)
+size0 (Body0.branch x y t) = suc (size0 x + size0 y + size0 t)
+size0 (Body0.loop x t) = suc (size0 x + size0 t)
+
+-- "8 call: P is a body"
+abbrev pub body0-fields : Body0 → List Fields
+body0-fields Body0.done = []
+body0-fields (Body0.call b t) = fields 8 0 0 b 0 ∷ body0-fields t
+body0-fields (Body0.branch x y t) = fields 6 0 0 (size0 x) (size0 y) ∷ (body0-fields x ++ (body0-fields y ++ body0-fields t))
+body0-fields (Body0.loop x t) = fields 7 0 0 (size0 x) 0 ∷ (body0-fields x ++ body0-fields t)
+
+-- "16 R, 17 W, 18 RW"
+abbrev pub mode-kind : Mode → ℕ
+mode-kind R = 16
+mode-kind W = 17
+mode-kind RW = 18
+
+-- "side and array"
+abbrev pub declaration-fields : Declaration → Fields
+declaration-fields d = fields (mode-kind (d .mode)) (side-number (d .side)) (d .array) 0 0
+
+-- a body of a file: how many of its records are declarations, and its records
+pub record Body : Type 0 where
+  pub declarations : ℕ
+  pub records : List Fields
+
+-- "per body four bytes: its records (two bytes ..), its declarations (one byte), zero"
+abbrev pub entry-bytes : Body → List ℕ
+entry-bytes b = u16-bytes (length (b .records)) ++ (b .declarations ∷ 0 ∷ [])
+
+module _ {A : Type 0} where
+  -- the bytes of each, one after the other
+  abbrev pub joined : (A → List ℕ) → List A → List ℕ
+  joined g [] = []
+  joined g (x ∷ l) = g x ++ joined g l
+
+-- header and contents
+abbrev pub front : ℕ → Arrays → List Body → List ℕ
+front kind arrays bodies = kind ∷ length arrays ∷ length bodies ∷ 0 ∷ (joined u16-bytes arrays ++ joined entry-bytes bodies)
+
+-- "Then the bodies, body 0 first, eight bytes a record. Last two check bytes"
+unfoldable pub file : ℕ → Arrays → List Body → List ℕ
+file kind arrays bodies =
+    let s = front kind arrays bodies ++ joined (λ (b : Body). joined record-bytes (b .records)) bodies in
+    s ++ check-bytes s
+
+-- the file of a plain plan
+abbrev pub plain-file : Plan → List ℕ
+plain-file plan = file 2 (plan .arrays) (record { declarations = 0; records = block-fields (plan .body) } ∷ [])
+
+-- a pass: "declarations first .. then kinds 1 to 7"
+abbrev pub pass-body : Pass → Body
+pass-body p = record { declarations = length (p .declarations); records = map declaration-fields (p .declarations) ++ block-fields (p .body) }
+
+-- the file of a declared plan
+abbrev pub declared-file : DeclaredPlan → List ℕ
+declared-file plan = file 1 (plan .arrays) (record { declarations = 0; records = body0-fields (plan .body0) } ∷ map pass-body (plan .passes))

@@ -1,0 +1,3 @@
+-- From a plan back to the bytes of its file, and the plans that a file can hold.
+pub mod Files
+pub mod Bounds

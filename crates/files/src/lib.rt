@@ -1,0 +1,1 @@
+// The file of a plan: definitions and theorems alone, no code.

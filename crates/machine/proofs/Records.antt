@@ -1,0 +1,96 @@
+-- A record of kind 1 to 5 of an opened plain plan, as the runner meets it: its cells, the room for them, and the room for what it counts.
+use mathlib.Core.Path.{_≡_, _∙_}
+use mathlib.Core.Bool.{Bool, true, false, cond, not}
+use mathlib.Core.List.{List, [], _∷_}
+use Prim.Native.Nat.{ℕ, suc, _+_, _≤_, _<_}
+use native.Mathlib.Decide.{decLt}
+use native.Mathlib.Numerals.{add-one}
+use native.Mathlib.Omega.{arith}
+use lib.ListN.{length}
+use borrow.Author.Tests.{le-leb, lt-leb}
+use Rattle.model.specs.Sides.{Arrays, cells, length-of, first-of}
+use Rattle.model.specs.Effects.{Action, read, write, copy, need, mark, State}
+use Rattle.model.specs.Runs.{Event, tally}
+use Rattle.model.proofs.Numbering.{array-ends}
+use Rattle.model.proofs.Runs.{event}
+use Rattle.reading.specs.declared.Fields.{Fields}
+use Rattle.reading.specs.Bytes.{array-count, length-at, arrays-of}
+use Rattle.records.specs.Records.{fields-fit}
+use Rattle.format.specs.Plans.{action-of}
+use Rattle.format.specs.Inner.Walks.{Plain}
+use Rattle.reading.proofs.Tables.{arrays-counted, array-length, next-cell}
+use Rattle.format.proofs.Walking.{opened-facts}
+use Rattle.format.proofs.Acts.{cells-fit, array-fits, by-kind}
+use Rattle.acts.specs.Inner.Acting.{CellsAt, ArrayAt, Spans}
+use Rattle.machine.specs.Inner.Standing.{from-of, to-of}
+
+module _ (f : List ℕ) (bodies : ℕ) (w : Plain f bodies) (x : Fields) (fit : fields-fit f x ≡ true) (kind : (1 ≤ x .kind) × (x .kind ≤ 5)) where
+  abbrev arrays : Arrays
+  arrays = arrays-of f
+
+  pub on-array : (x .side ≤ 1) × (x .array < array-count f)
+  on-array = elim (decLt 3 (x .kind)) [ yes h ↦ array-fits f x fit (omega arith) (kind .1) | no h ↦ cells-fit f x fit (kind .0) (omega arith) .0 ]
+
+  pub few-arrays : x .array < 32
+  few-arrays = omega (arith, on-array .1, opened-facts f (w .opens) .bounds .header .arrays)
+
+  module _ (first next : ℕ) (e : first ≡ first-of arrays (x .array)) (g : next ≡ first-of arrays (x .array + 1)) where
+    next-is : next ≡ first-of arrays (x .array) + length-of arrays (x .array)
+    next-is =
+        let n : first-of arrays (x .array + 1) ≡ first-of arrays (x .array) + length-at f (x .array) = rw (add-one (x .array)) (next-cell f (x .array) (on-array .1)) in
+        g ∙ (n ∙ rw (array-length f (x .array) (on-array .1)))
+
+    module _ (k : x .kind ≤ 3) where
+      from-is : from-of x first ≡ first-of arrays (x .array) + x .p
+      from-is = rw (le-leb (x .kind) 3 k, e)
+
+      to-is : to-of x first next ≡ first-of arrays (x .array) + x .q
+      to-is = rw (le-leb (x .kind) 3 k, e)
+
+      fits : x .q ≤ length-of arrays (x .array)
+      fits = rw (array-length f (x .array) (on-array .1)) (cells-fit f x fit (kind .0) k .2)
+
+      cells-at : CellsAt arrays (record { array = x .array; p = x .p; q = x .q }) (from-of x first) (to-of x first next)
+      cells-at = record { begins = from-is; ends = to-is; fits = fits }
+
+    module _ (k : 3 < x .kind) where
+      array-at : ArrayAt arrays (x .array) (from-of x first) (to-of x first next)
+      array-at = record { one = rw (arrays-counted f) (on-array .1); begins = rw (lt-leb (x .kind) 3 k) e; ends = rw (lt-leb (x .kind) 3 k) next-is }
+
+    pub spans : Spans arrays (action-of x) (from-of x first) (to-of x first next)
+    spans = by-kind x kind (λ y. Spans arrays y (from-of x first) (to-of x first next))
+        (λ z. cells-at (omega arith)) (λ z. cells-at (omega arith)) (λ z. cells-at (omega arith)) (λ z. array-at (omega arith)) (λ z. array-at (omega arith))
+
+    -- the cells are of the plan
+    pub inside : (from-of x first ≤ to-of x first next) × (to-of x first next ≤ cells arrays) × (to-of x first next ≤ 4096)
+    inside = elim (decLt 3 (x .kind)) [
+      | yes h ↦ let a = array-at h in let n = array-ends arrays (x .array) in let c = opened-facts f (w .opens) .bounds .cells-below in (omega (arith, a .begins, a .ends), omega (arith, a .ends, n), omega (arith, a .ends, n, c))
+      | no h ↦
+          let a = cells-at (omega arith) in let n = array-ends arrays (x .array) in let c = opened-facts f (w .opens) .bounds .cells-below in let b = cells-fit f x fit (kind .0) (omega arith) in
+          (omega (arith, a .begins, a .ends, b .1), omega (arith, a .ends, a .fits, n), omega (arith, a .ends, a .fits, n, c))
+    ]
+
+-- a record counts as one more read or write at most, and moves no more cells than it has
+module _ (arrays : Arrays) where
+  pub few-counted : (l : List Event) → (tally arrays l .reads ≤ length l) × (tally arrays l .writes ≤ length l)
+  few-counted [] = (omega arith, omega arith)
+  few-counted (e ∷ l) = go (e .action) (few-counted l)
+    where
+      go : (y : Action) → (tally arrays l .reads ≤ length l) × (tally arrays l .writes ≤ length l) →
+          (tally arrays (record { action = y; copied = e .copied } ∷ l) .reads ≤ suc (length l)) × (tally arrays (record { action = y; copied = e .copied } ∷ l) .writes ≤ suc (length l))
+      go (read s x) h = (omega (arith, h), omega (arith, h))
+      go (write s x) h = (omega (arith, h), omega (arith, h))
+      go (copy s x) h = (omega (arith, h), omega (arith, h))
+      go (need s a) h = (omega (arith, h), omega (arith, h))
+      go (mark s a) h = (omega (arith, h), omega (arith, h))
+
+  pub few-moved : (y : Action) (from to : ℕ) → Spans arrays y from to → to ≤ 4096 → (σ : State) (l : List Event) → tally arrays (event y σ ∷ l) .moved ≤ tally arrays l .moved + 4096
+  few-moved (read s x) from to h b σ l = omega arith
+  few-moved (write s x) from to h b σ l = omega arith
+  few-moved (copy s x) from to h b σ l = omega (arith, h .ends)
+  few-moved (need s a) from to h b σ l = go (σ .flag s a)
+    where
+      go : (flag : Bool) → tally arrays l .moved + cond (not flag) (length-of arrays a) 0 ≤ tally arrays l .moved + 4096
+      go true = omega arith
+      go false = omega (arith, h .ends)
+  few-moved (mark s a) from to h b σ l = omega arith

@@ -1,0 +1,3 @@
+-- The choices of a run, and where it stands.
+pub mod Choices
+pub mod Inner

@@ -1,0 +1,3 @@
+-- Laws of ranges and of tables.
+pub mod Ranges
+pub mod Tables

@@ -1,0 +1,43 @@
+-- `format::bytes::u16_at` gives the number of two bytes at a place.
+use Rattle.reading.specs.Bytes.{u16-at}
+use borrow.Author.Needs.{needs}
+use Rattle.reading.proofs.u16_at.Statement.{statement}
+use Rattle.reading.proofs.u16_at.Tie as tie
+
+byte-requires : tie.Need-byte-requires
+byte-requires c κs = search needs
+
+cast-result : tie.Need-cast-result
+cast-result c = search needs
+
+add-byte : tie.Need-add-byte
+add-byte c = search needs
+
+byte-requires-2 : tie.Need-byte-requires-2
+byte-requires-2 c κs = search needs
+
+cast-result-2 : tie.Need-cast-result-2
+cast-result-2 c = search needs
+
+mul-result : tie.Need-mul-result
+mul-result c = search needs
+
+add-result : tie.Need-add-result
+add-result c = search needs
+
+returns : tie.Need-returns
+unfolding u16-at
+returns c = simp (c .byte2 .ensures, c .before .byte .ensures)
+
+pub u16-at-spec : {M : Type 1} → statement M
+u16-at-spec =
+    tie.close
+    (tie.spec
+    byte-requires
+    cast-result
+    add-byte
+    byte-requires-2
+    cast-result-2
+    mul-result
+    add-result
+    returns)

@@ -1,0 +1,98 @@
+-- The parts of a plan file, by their places in its bytes (document 01, 'The plan file').
+use Prim.Native.Nat.{ℕ, zero, suc, _+_, _*_}
+use mathlib.Core.Bool.{Bool, cond, _&&_}
+use mathlib.Core.List.{List, [], _∷_, _++_}
+use lib.ListN.{getD}
+use lib.Dec.{leb, eqb}
+use Rattle.model.specs.Sides.{Arrays, first-of}
+use Rattle.reading.specs.declared.Fields.{Fields}
+
+-- byte i of the file, 0 past its end
+abbrev pub byte-at : List ℕ → ℕ → ℕ
+byte-at f i = getD f i 0
+
+-- "Numbers of two bytes have the low byte first."
+unfoldable pub u16-at : List ℕ → ℕ → ℕ
+u16-at f i = byte-at f i + byte-at f (i + 1) * 256
+
+-- "Byte 0: kind, 1 declared, 2 plain."
+abbrev pub kind-of : List ℕ → ℕ
+kind-of f = byte-at f 0
+
+-- "Byte 1: arrays"
+abbrev pub array-count : List ℕ → ℕ
+array-count f = byte-at f 1
+
+-- "Byte 2: bodies"
+abbrev pub body-count : List ℕ → ℕ
+body-count f = byte-at f 2
+
+-- g 0, g 1, .. below n
+unfoldable pub table : {A : Type 0} → (ℕ → A) → ℕ → List A
+table g zero = []
+table g (suc n) = table g n ++ (g n ∷ [])
+
+-- "Contents: per array its length in two bytes"
+unfoldable pub length-at : List ℕ → ℕ → ℕ
+length-at f a = u16-at f (4 + 2 * a)
+
+-- the lengths of all arrays
+unfoldable pub arrays-of : List ℕ → Arrays
+arrays-of f = table (length-at f) (array-count f)
+
+-- "per body four bytes: its records (two bytes ..), its declarations (one byte), zero": where body b's entry stands
+unfoldable pub entry-at : List ℕ → ℕ → ℕ
+entry-at f b = 4 + 2 * array-count f + 4 * b
+
+-- "its records (two bytes ..)"
+abbrev pub records-in : List ℕ → ℕ → ℕ
+records-in f b = u16-at f (entry-at f b)
+
+-- "its declarations (one byte)"
+abbrev pub declarations-in : List ℕ → ℕ → ℕ
+declarations-in f b = byte-at f (entry-at f b + 2)
+
+-- "zero": the fourth byte
+abbrev pub last-of-entry : List ℕ → ℕ → ℕ
+last-of-entry f b = byte-at f (entry-at f b + 3)
+
+-- "Records are numbered from 0 through all bodies in order": the records of each body
+unfoldable pub sizes-of : List ℕ → List ℕ
+sizes-of f = table (records-in f) (body-count f)
+
+-- the number of body b's first record
+abbrev pub first-record : List ℕ → ℕ → ℕ
+first-record f b = first-of (sizes-of f) b
+
+-- the records of all bodies
+abbrev pub record-count : List ℕ → ℕ
+record-count f = first-record f (body-count f)
+
+-- "Then the bodies, body 0 first, eight bytes a record."
+abbrev pub bodies-at : List ℕ → ℕ
+bodies-at f = entry-at f (body-count f)
+
+-- "A record: kind, side, array, zero, then two numbers of two bytes, P and Q."
+unfoldable pub fields-at : List ℕ → ℕ → Fields
+fields-at f r =
+    let i = bodies-at f + 8 * r in
+    record {
+      kind = byte-at f i;
+      side = byte-at f (i + 1);
+      array = byte-at f (i + 2);
+      zero = byte-at f (i + 3);
+      p = u16-at f (i + 4);
+      q = u16-at f (i + 6);
+    }
+
+-- low ≤ x ≤ high
+abbrev pub between : ℕ → ℕ → ℕ → Bool
+between low high x = leb low x && leb x high
+
+-- the records of the first arm, none where the kind has no arm
+unfoldable pub first-arm : Fields → ℕ
+first-arm x = cond (between 6 7 (x .kind)) (x .p) 0
+
+-- the records of the second arm, which a branch alone has
+unfoldable pub second-arm : Fields → ℕ
+second-arm x = cond (eqb (x .kind) 6) (x .q) 0

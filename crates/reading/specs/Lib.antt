@@ -1,0 +1,2 @@
+-- The parts of a plan file, by their places in its bytes.
+pub mod Bytes

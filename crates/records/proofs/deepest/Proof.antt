@@ -1,0 +1,21 @@
+-- `format::records::deepest` gives the bound on nesting.
+use mathlib.Core.Path.{sym, _∙_}
+use borrow.Author.Tests.{eq-eqb, ne-eqb}
+use Rattle.records.specs.Records.{deepest}
+use borrow.Author.Needs.{needs}
+use Rattle.records.proofs.deepest.Statement.{statement}
+use Rattle.records.proofs.deepest.Tie as tie
+
+byte-requires : tie.Need-byte-requires
+byte-requires c κs = search needs
+
+returns : tie.Need-returns
+unfolding deepest
+returns c = simp (eq-eqb _ _ (sym (c .before .byte .ensures) ∙ c .if1 .taken))
+
+returns-2 : tie.Need-returns-2
+unfolding deepest
+returns-2 c = simp (ne-eqb _ _ (λ e. c .if1 .left (c .before .byte .ensures ∙ e)))
+
+pub deepest-spec : {M : Type 1} → statement M
+deepest-spec = tie.close (tie.spec byte-requires returns returns-2)

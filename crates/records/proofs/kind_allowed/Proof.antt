@@ -1,0 +1,29 @@
+-- `format::records::kind_allowed` answers whether a kind is allowed where it stands.
+use mathlib.Core.Path.{sym, _∙_}
+use borrow.Author.Tests.{lt-ltb, le-ltb, eq-eqb, ne-eqb}
+use Rattle.records.specs.Records.{allowed}
+use borrow.Author.Needs.{needs}
+use Rattle.records.proofs.kind_allowed.Statement.{statement}
+use Rattle.records.proofs.kind_allowed.Tie as tie
+
+byte-requires : tie.Need-byte-requires
+byte-requires c κs = search needs
+
+returns : tie.Need-returns
+unfolding allowed
+returns c = simp (eq-eqb _ _ (sym (c .before .byte .ensures) ∙ c .if1 .taken))
+
+returns-2 : tie.Need-returns-2
+unfolding allowed
+returns-2 c = simp (ne-eqb _ _ (λ e. c .before .if1 .left (c .before .before .byte .ensures ∙ e)), eq-eqb _ _ (c .if2 .taken))
+
+returns-3 : tie.Need-returns-3
+unfolding allowed
+returns-3 c = simp (ne-eqb _ _ (λ e. c .before .before .if1 .left (c .before .before .before .byte .ensures ∙ e)), ne-eqb _ _ (c .before .if2 .left), lt-ltb _ _ (rw (c .before .before .before .before .before .pre) at (c .if3 .taken)))
+
+returns-4 : tie.Need-returns-4
+unfolding allowed
+returns-4 c = simp (ne-eqb _ _ (λ e. c .before .before .if1 .left (c .before .before .before .byte .ensures ∙ e)), ne-eqb _ _ (c .before .if2 .left), le-ltb _ _ (rw (c .before .before .before .before .before .pre) at (c .if3 .left)))
+
+pub kind-allowed-spec : {M : Type 1} → statement M
+kind-allowed-spec = tie.close (tie.spec byte-requires returns returns-2 returns-3 returns-4)

@@ -1,0 +1,2 @@
+-- Numbers 8 to 10.
+pub mod Records

@@ -1,0 +1,2 @@
+-- The check bytes of a plan file.
+pub mod Sums

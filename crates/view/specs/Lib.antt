@@ -1,0 +1,2 @@
+-- The view of a memory.
+pub mod Viewing
