@@ -2,10 +2,12 @@
 use mathlib.Core.Path.{_≡_, refl, ap, _∙_}
 use mathlib.Core.List.{List}
 use Prim.Native.Nat.{ℕ, suc, _+_, _*_, _-_, _≤_, _<_}
+use native.Mathlib.Nat.{add-comm}
 use native.Mathlib.Numerals.{add-one}
 use native.Mathlib.Omega.{arith}
 use lib.ListN.{length, take, drop, getD}
 use borrow.Author.Tests.{le-leb, lt-leb}
+use Rattle.model.specs.Lists.{further}
 use Rattle.model.specs.declared.Verdict.{Verdict}
 use Rattle.model.specs.declared.Verdict.the-variants.{Accepted, Stopped, Refused}
 use Rattle.contents.specs.declared.Opened.{Opened}
@@ -95,3 +97,8 @@ module _ (f : List ℕ) (b : ℕ) where
       go Accepted = refl
       go (Stopped r c) = refl
       go (Refused n p) = refl
+
+  -- at acceptance it begins where the body does in the file, wherever that is in memory
+  pub part-begins : (file : ℕ × ℕ) → body-view-answer f b ≡ Accepted → (file .0, body-part f b .from + file .1) ≡ further file (body-at f b)
+  unfolding body-part
+  part-begins file e = rw e (ap (λ n. (file .0, n)) (add-comm (body-at f b) (file .1)))

@@ -1,4 +1,5 @@
--- Two words on lists, for the definitions after them.
+-- Two words on lists and one on places in memory, for the definitions after them.
+use Prim.Native.Nat.{ℕ, _+_}
 use mathlib.Core.Bool.{Bool, false, _||_}
 use mathlib.Core.List.{List, [], _∷_}
 
@@ -12,3 +13,7 @@ module _ {A : Type 0} where
   abbrev pub All : (A → Type 0) → List A → Type 0
   All P [] = Unit {0}
   All P (x ∷ l) = P x × All P l
+
+-- a place in memory is a block and a byte in it: the place n bytes further on in the same block
+abbrev pub further : ℕ × ℕ → ℕ → ℕ × ℕ
+further place n = (place .0, place .1 + n)

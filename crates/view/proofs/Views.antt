@@ -2,7 +2,7 @@
 use mathlib.Core.Path.{_≡_, refl, sym, ap, _∙_}
 use mathlib.Core.Bool.{Bool, true, false, not, cond, _&&_, _||_}
 use mathlib.Core.List.{List, []}
-use Prim.Native.Nat.{ℕ, zero, suc, _+_, _-_, _≤_, _<_, min}
+use Prim.Native.Nat.{ℕ, zero, suc, _+_, _*_, _-_, _≤_, _<_, min}
 use native.Nat.{ℕᴺ-discrete}
 use native.Mathlib.Omega.{arith}
 use lib.Dec.{ltb, leb, eqb}
@@ -13,7 +13,7 @@ use Rattle.model.specs.declared.Verdict.the-variants.{Accepted, Stopped, Refuse
 use Rattle.model.proofs.Booleans.{or-none, and-out}
 use Rattle.model.proofs.Rows.{holds, skips, skipped, empty}
 use Rattle.view.specs.declared.View.{View}
-use Rattle.view.specs.Viewing.{all-current, memory-view-answer, viewed-side, viewed, memory-view, view-by, memory-side}
+use Rattle.view.specs.Viewing.{all-current, memory-view-answer, viewed-side, viewed-place, viewed, memory-view, view-by, memory-side}
 use Rattle.acts.specs.Inner.Acting.{FirstStale}
 
 -- n cells from c on are all current exactly if each of them is
@@ -130,3 +130,14 @@ module _ (host card latest : List ℕ) (from end : ℕ) where
 
       pub part-card : (r .side ≡ 0 → ⊥) → take (end - from) (drop from card) ≡ memory-view host card latest from end
       part-card s = rw (ne-eqb (r .side) 0 s) at part-of
+
+      -- the side's own memory, wherever the two are
+      side-of : viewed-side host latest from end ≡ r .side
+      unfolding memory-side
+      side-of = sym (ap (λ (x : View). x .side) q ∙ rw (← e))
+
+      pub place-host : (h k : ℕ × ℕ) → r .side ≡ 0 → (h .0, from * 8 + h .1) ≡ viewed-place h k (viewed-side host latest from end) from
+      place-host h k s = rw (side-of, eq-eqb (r .side) 0 s) (ap (λ n. (h .0, n)) (omega arith))
+
+      pub place-card : (h k : ℕ × ℕ) → (r .side ≡ 0 → ⊥) → (k .0, from * 8 + k .1) ≡ viewed-place h k (viewed-side host latest from end) from
+      place-card h k s = rw (side-of, ne-eqb (r .side) 0 s) (ap (λ n. (k .0, n)) (omega arith))

@@ -1,11 +1,12 @@
 -- The memory view (document 01, 'Running and viewing').
-use Prim.Native.Nat.{ℕ, zero, suc, _-_, min}
+use Prim.Native.Nat.{ℕ, zero, suc, _*_, _-_, min}
 use mathlib.Core.Bool.{Bool, true, cond, not, _&&_, _||_}
 use mathlib.Core.List.{List, [], _∷_}
 use lib.Dec.{ltb, leb, eqb}
 use lib.ListN.{length, getD, take, drop}
 use Rattle.model.specs.declared.Verdict.{Verdict}
 use Rattle.model.specs.declared.Verdict.the-variants.{Accepted, Stopped, Refused}
+use Rattle.model.specs.Lists.{further}
 use Rattle.model.specs.Rows.{row, first}
 use Rattle.view.specs.declared.View.{View}
 
@@ -24,6 +25,10 @@ memory-view-answer host card latest from end =
 -- "a part of the host memory or of the card memory, the host's if all its cells are current, else the card's": the side
 unfoldable pub viewed-side : List ℕ → List ℕ → ℕ → ℕ → ℕ
 viewed-side host latest from end = cond (all-current host latest from (end - from)) 0 1
+
+-- where the part begins: in that side's own memory, `from` cells of 8 bytes after the place where that memory begins
+abbrev pub viewed-place : ℕ × ℕ → ℕ × ℕ → ℕ → ℕ → ℕ × ℕ
+viewed-place host-begins card-begins side from = further (cond (eqb side 0) host-begins card-begins) (8 * from)
 
 -- "A refused view is empty"
 abbrev pub viewed : List ℕ → List ℕ → ℕ → ℕ → ℕ → Verdict → List ℕ

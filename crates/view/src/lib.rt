@@ -2,7 +2,7 @@
 ghost use mathlib.Core.Path.{_≡_};
 ghost use Prim.Native.Nat.{_-_, _≤_, min};
 ghost use lib.ListN.{length};
-ghost use Rattle.view.specs.Viewing.{all-current, memory-view-answer, memory-view, memory-side};
+ghost use Rattle.view.specs.Viewing.{all-current, memory-view-answer, viewed-side, viewed-place, memory-view, memory-side};
 use acts::memories::first_stale;
 use model::Verdict;
 
@@ -80,7 +80,8 @@ pub fn memory_view<'a>(
     first: u64,
     end: u64,
 ) -> &'a [u64]
-    ensures { λ r. ⌜ now r ≡ memory-view (now (host .entry)) (now (card .entry)) (now (latest .entry)) first end ⌝ }
+    ensures cells { λ r. ⌜ now r ≡ memory-view (now (host .entry)) (now (card .entry)) (now (latest .entry)) first end ⌝ }
+    ensures own { λ r. ⌜ (memory-view-answer (now (host .entry)) (now (card .entry)) (now (latest .entry)) first end ≡ Verdict.Accepted → r .ptr ≡ viewed-place (host .entry .ptr) (card .entry .ptr) (viewed-side (now (host .entry)) (now (latest .entry)) first end) first) ⌝ }
 {
     let v = memory_side(host, card, latest, first, end);
     let answer = v.verdict;

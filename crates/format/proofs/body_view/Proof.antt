@@ -2,7 +2,7 @@
 use mathlib.Core.Path.{_≡_}
 use Prim.Native.Nat.{_+_, _-_}
 use native.Mathlib.Omega.{arith}
-use Rattle.format.proofs.Views.{part-view}
+use Rattle.format.proofs.Views.{part-view, part-begins}
 use borrow.Author.Needs.{needs}
 use Rattle.format.proofs.body_view.Statement.{statement}
 use Rattle.format.proofs.body_view.Tie as tie
@@ -32,7 +32,8 @@ returns : tie.Need-returns
 returns c =
     let p = c .before .before .before .body-part .result in
     let n : p .from + p .size - p .from ≡ p .size = omega arith in
-    rw n (rw (c .before .before .before .body-part .ensures .0) (part-view _ _))
+    let q = c .before .before .before .body-part .ensures .0 in
+    (rw n (rw q (part-view _ _)), λ a. rw q (part-begins _ _ _ a))
 
 pub body-view-spec : {M : Type 1} → statement M
 body-view-spec =
