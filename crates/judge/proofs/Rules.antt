@@ -8,10 +8,10 @@ use native.Nat.{ℕᴺ-discrete}
 use native.Mathlib.Decide.{decLt}
 use native.Mathlib.Omega.{arith}
 use lib.Dec.{eqb}
-use borrow.Author.Tests.{lt-ltb, le-ltb, eq-eqb, ne-eqb, eqb-true, not-false}
+use borrow.Author.Tests.{lt-ltb, le-ltb, eq-eqb, ne-eqb, eqb-true, not-false, not-true}
 use Rattle.model.specs.declared.Verdict.the-variants.{Accepted}
 use Rattle.model.specs.Lists.{All}
-use Rattle.model.specs.Sides.{Side, Cells}
+use Rattle.model.specs.Sides.{Side, length-of, first-of, Cells}
 use Rattle.model.specs.Effects.{copy, need, mark}
 use Rattle.model.specs.Judging.{R, W, RW, Declaration, permits, every, declared-once, Written, Rules, Accepts}
 use Rattle.reading.specs.declared.Fields.{Fields}
@@ -20,16 +20,18 @@ use Rattle.reading.specs.Bytes.{kind-of, body-count, arrays-of, records-in, dec
 use Rattle.format.specs.Opening.{open-rows, opening}
 use Rattle.format.specs.Plans.{side-of, action-of, declaration-of, pass-at, declared-plan-of}
 use Rattle.reading.proofs.Ranges.{in-range, out-of-range}
-use Rattle.model.proofs.Rows.{skips, skipped, empty, pass, passed}
+use Rattle.model.proofs.Booleans.{and-out}
+use Rattle.model.proofs.Rows.{holds, held, skips, skipped, empty, pass, passed}
 use Rattle.judge.specs.declared.Extent.{Extent}
-use Rattle.judge.specs.Judged.{declared-before, record-rows, w-rows, pass-rows, judge-rows, judged}
+use Rattle.judge.specs.Judged.{declared-before, record-rows, all-written, w-rows, pass-rows, judge-rows, judged}
+use Rattle.judge.specs.Claims.{Claim15}
 use Rattle.judge.specs.Inner.Passes.{PassAt}
 use Rattle.judge.proofs.Laws.Records.{declared-low, other-kind, others-walk, others-block}
 use Rattle.judge.proofs.Laws.Passes.{judged-passes}
 use Rattle.judge.proofs.Rules.Tables.{each-accepts, all-table}
 use Rattle.judge.proofs.Rules.Declarations.{once-table}
 use Rattle.judge.proofs.Rules.Blocks.{Passes, every-each}
-use Rattle.judge.proofs.Rules.Ways.{written-cells}
+use Rattle.judge.proofs.Rules.Ways.{written-cells, left-cells}
 pub mod Tables
 pub mod Declarations
 pub mod Blocks
@@ -159,4 +161,14 @@ accepted-rules f =
           let k = eqb-true (kind-of f) 1 (not-false _ (s .0)) in
           (sym (q .0), k, rules .1 (λ b l. pass-accepts f (q .0) k (suc b) (omega arith) (omega arith) .0 (passes .0 (s .1) b l))),
       λ w. sym (judged-passes f (sym (w .0)) (w .1) Accepted (passes .1 (λ b l. pass-accepts f (sym (w .0)) (w .1) (suc b) (omega arith) (omega arith) .1 (rules .0 (w .2) b l)))),
+    )
+
+-- the row of 15, whatever the file
+pub fifteen : Claim15
+unfolding w-rows declaration-of
+fifteen f b i =
+    let x = fields-at f (first-record f b + i) in
+    let left = left-cells (arrays-of f) (pass-at f b .body) (declaration-of x) in (
+      λ e. let h = held _ _ _ e in (w-kind (x .kind) .1 (eqb-true (x .kind) 17 (and-out (eqb (x .kind) 17) _ h .0)), left .0 (not-true (all-written (arrays-of f) (declaration-of x .side) (pass-at f b .body) (first-of (arrays-of f) (x .array)) (length-of (arrays-of f) (x .array))) (and-out (eqb (x .kind) 17) _ h .1))),
+      λ p. sym (holds _ _ _ _ (rw (eq-eqb (x .kind) 17 (w-kind (x .kind) .0 (p .0)), left .1 (p .1)))),
     )

@@ -35,6 +35,12 @@ pub holds : (c : Bool) (n p : ℕ) (rows : List Row) → c ≡ true → Refused 
 unfolding first
 holds c n p rows e = rw e
 
+-- and where the answer is its number, it does
+pub held : (c : Bool) (n p : ℕ) → first (row c n p ∷ []) ≡ Refused n p → c ≡ true
+unfolding first
+held true n p e = refl
+held false n p e = let z : _≡_ {A = ℕ} 0 1 = cc in absurd (omega arith)
+
 pub skips : (c : Bool) (n p : ℕ) (rows : List Row) (v : Verdict) → c ≡ false → v ≡ first rows → v ≡ first (row c n p ∷ rows)
 unfolding first
 skips c n p rows v e h = rw e h

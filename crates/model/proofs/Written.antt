@@ -39,13 +39,13 @@ module _ (arrays : Arrays) (s : Side) (c : ℕ) where
   way-writes (Way.turn {v = v} {w} h k) e = rw (any-append writes v w) (or-right (any writes v) (any writes w) (way-writes k e))
 
   -- a way to the choices ds that does not write the cell
-  record Unwritten (b : Block) (ds : List Bool) : Type 0 where
-    choices : List Bool
-    records : List Action
-    way : Way b choices ds records
-    none : any writes records ≡ false
+  pub record Unwritten (b : Block) (ds : List Bool) : Type 0 where
+    pub choices : List Bool
+    pub records : List Action
+    pub way : Way b choices ds records
+    pub none : any (writes-cell arrays s c) records ≡ false
 
-  unwritten : (b : Block) (ds : List Bool) → always b ≡ false → Unwritten b ds
+  pub unwritten : (b : Block) (ds : List Bool) → always-writes arrays s c b ≡ false → Unwritten b ds
   unwritten Block.done ds e = record { choices = ds; records = []; way = Way.done; none = refl }
   unwritten (act r x b) ds e = let f = or-none (writes x) (always b) e in go (f .0) (unwritten b ds (f .1))
     where

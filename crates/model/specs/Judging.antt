@@ -108,7 +108,18 @@ Written arrays b d =
     (c : ℕ) → c < cells arrays → array-of arrays c ≡ d .array →
     (cs ds : List Bool) (w : List Action) → Way b cs ds w → any (writes-cell arrays (d .side) c) w ≡ true
 
--- the same of one cell, as a test that computes
+-- its contrary: some way through the pass leaves a cell of the array unwritten on that side
+pub record Leaves (arrays : Arrays) (b : Block) (d : Declaration) : Type 0 where
+  pub cell : ℕ
+  pub inside : cell < cells arrays
+  pub own : array-of arrays cell ≡ d .array
+  pub choices : List Bool
+  pub unused : List Bool
+  pub records : List Action
+  pub way : Way b choices unused records
+  pub unwritten : any (writes-cell arrays (d .side) cell) records ≡ false
+
+-- `Written` of one cell, as a test that computes
 abbrev pub always-writes : Arrays → Side → ℕ → Block → Bool
 always-writes arrays s c Block.done = false
 always-writes arrays s c (Block.act r x b) = writes-cell arrays s c x || always-writes arrays s c b
