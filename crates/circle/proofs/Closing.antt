@@ -1,23 +1,31 @@
 -- No run of what the expander writes is stopped, and at done the cells moved are those that demand 3's moves come to.
 use Prim.Native.Nat.{ℕ, zero, suc, _+_, _*_, _≤_, _<_}
 use mathlib.Core.Path.{_≡_, refl, ap, sym, _∙_, subst}
-use mathlib.Core.Bool.{Bool, true, false, cond}
+use mathlib.Core.Logic.{_⊎_, inl, inr}
+use mathlib.Core.Bool.{Bool, true, false, cond, _||_, true≢false}
 use mathlib.Core.List.{List, [], _∷_}
 use native.Mathlib.Decide.{decLt}
 use native.Mathlib.Nat.{zero-mul, suc-mul}
 use native.Mathlib.Omega.{arith}
-use lib.ListN.{length, List·getD-eq-default}
-use borrow.Author.Tests.{eq-eqb, ne-eqb}
+use lib.Dec.{ltb}
+use lib.ListN.{length, getD, drop, List·getD-eq-default, List·getD-append}
+use borrow.Author.Tests.{eq-eqb, ne-eqb, le-ltb}
 use Rattle.model.specs.declared.Verdict.{Verdict}
 use Rattle.model.specs.declared.Verdict.the-variants.{Accepted, Stopped, Refused}
-use Rattle.model.specs.Sides.{Arrays, length-of}
+use Rattle.model.specs.Sides.{Side, host, card, at, Arrays, cells, length-of}
 use Rattle.model.specs.Blocks.{size, Plan}
 use Rattle.model.specs.Runs.{Config, Ending, finished, stopped, out-of-choices, Ends, tally}
-use Rattle.model.specs.Demand.{Made, moves}
+use Rattle.model.specs.Demand.{latest-write, Made, moves}
+use Rattle.model.proofs.Runs.{carried}
+use Rattle.model.proofs.Stamps.{tracked}
+use Rattle.model.proofs.Rows.{skips, pass}
 use Rattle.model.proofs.Demand.Adding.{copied-cells}
 use Rattle.model.proofs.Demand3.{moves-add}
-use Rattle.reading.specs.Bytes.{arrays-of}
-use Rattle.model.specs.Rows.{first}
+use Rattle.reading.specs.Bytes.{kind-of, table, arrays-of}
+use Rattle.reading.proofs.Tables.{length-table, getD-table}
+use Rattle.format.specs.Opening.{open-rows, opening}
+use Rattle.acts.specs.Memories.{number-of}
+use Rattle.model.specs.Rows.{row, first}
 use Rattle.format.specs.Plans.{plan-of, declared-plan-of}
 use Rattle.judge.specs.Judged.{judged}
 use Rattle.judge.proofs.Rules.{accepted-rules}
@@ -26,9 +34,9 @@ use Rattle.circle.proofs.Opens.{expansion-opens}
 use Rattle.circle.proofs.Runs.{file-demand3}
 use Rattle.circle.proofs.Writes.{judged-and-small}
 use Rattle.run.specs.declared.End.{End}
-use Rattle.run.specs.Running.{Lent, run-rows, end-of, Ran, RunsAs, Runs}
+use Rattle.run.specs.Running.{Lent, run-rows, memory, holding, end-of, Ran, RunsAs, Runs}
 use Rattle.machine.specs.Choices.{choices-of}
-use Rattle.circle.specs.Closing.{moved-cells, Adds, ExpansionRun}
+use Rattle.circle.specs.Closing.{moved-cells, Adds, Roomy, DoneOrSpent, Kept, ExpansionRun}
 
 -- one more declaration adds the cells of its array, if its need copied
 module _ (arrays : Arrays) (d : Made) (l : List Made) where
@@ -71,6 +79,11 @@ exchanged : (arrays : Arrays) (l : List Made) → copied-cells arrays l ≡ move
 exchanged arrays [] = none-moved arrays (length arrays)
 exchanged arrays (d ∷ l) = rw (exchanged arrays l) (sym (one-more arrays d l))
 
+-- a cell of a memory that holds the cells of a plan
+held-at : (n : ℕ) (held : ℕ → ℕ) (old : List ℕ) (c : ℕ) → c < n → getD (memory n held old) c 0 ≡ held c
+unfolding memory
+held-at n held old c l = List·getD-append (table held n) (drop n old) 0 c (rw (length-table held n) l) ∙ getD-table held n c 0 l
+
 module _ (f : List ℕ) (accepted : judged f ≡ Accepted) (small : size (expansion-of f .body) ≤ 1024) (choices : List ℕ) (before after : Lent) (answer : End) where
   same-plan : plan-of (expansion-file f) ≡ expansion-of f
   same-plan = expansion-opens f accepted small .2
@@ -82,35 +95,97 @@ module _ (f : List ℕ) (accepted : judged f ≡ Accepted) (small : size (expans
       let m = moves-add (declared-plan-of f) (accepted-rules f .0 accepted .2) (choices-of choices) k h in
       record { config = k; ends = h; moved = m .0; adds = t ∙ m .1 ∙ exchanged (arrays-of f) (m .0 .made) }
 
-  -- a refusal is neither a stop nor done
-  refused : (n p : ℕ) → answer .verdict ≡ Refused n p → ExpansionRun f choices after answer
-  refused n p h = record {
+  same-arrays : arrays-of (expansion-file f) ≡ arrays-of f
+  unfolding plan-of declared-plan-of
+  same-arrays = ap (λ (p : Plan). p .arrays) same-plan
+
+  -- memories that hold a configuration of the run, and the reads before it
+  module _ (k : Config) (x : Ending) (h : Ends (expansion-of f) (choices-of choices) k x) (m : after ≡ holding (arrays-of f) k before) where
+    one-current : (s : Side) (c : ℕ) → c < cells (arrays-of f) → k .state .held s c ≡ at (latest-write (arrays-of f) (k .history) c) →
+        (getD (after .host) c 0 ≡ getD (after .latest) c 0) ⊎ (getD (after .card) c 0 ≡ getD (after .latest) c 0)
+    unfolding declared-plan-of
+    one-current s c l e =
+        let n = cells (arrays-of f) in
+        let latest = ap (λ (y : Lent). getD (y .latest) c 0) m ∙ held-at n (k .state .latest) (before .latest) c l ∙ tracked (carried (h .run)) .latest c in
+        go s e latest
+      where
+        go : (s : Side) → k .state .held s c ≡ at (latest-write (arrays-of f) (k .history) c) → getD (after .latest) c 0 ≡ latest-write (arrays-of f) (k .history) c →
+            (getD (after .host) c 0 ≡ getD (after .latest) c 0) ⊎ (getD (after .card) c 0 ≡ getD (after .latest) c 0)
+        go host e u = inl (ap (λ (y : Lent). getD (y .host) c 0) m ∙ held-at _ (λ i. number-of (k .state .held host i)) (before .host) c l ∙ ap number-of e ∙ sym u)
+        go card e u = inr (ap (λ (y : Lent). getD (y .card) c 0) m ∙ held-at _ (λ i. number-of (k .state .held card i)) (before .card) c l ∙ ap number-of e ∙ sym u)
+
+    kept : Kept f choices before after
+    unfolding declared-plan-of
+    kept =
+        let d = file-demand3 f accepted (choices-of choices) in
+        record {
+          config = k;
+          ending = x;
+          ends = h;
+          holds = m;
+          current = λ c l. let w = d .current k (h .run) c l in one-current (w .0) c l (w .1);
+          reads = d .reads;
+        }
+
+  -- a refusal before the run is 19 or 20
+  refused : (n p : ℕ) → answer .verdict ≡ Refused n p → (n ≡ 22 → ⊥) → (Roomy f choices before → ⊥) → ExpansionRun f choices before after answer
+  refused n p h other short = record {
     unstopped = λ r c u. let z : _≡_ {A = ℕ} 0 1 = cc in omega arith;
+    ended = λ r. absurd (short r);
+    kept = λ w. absurd (other (subst DoneOrSpent h w));
     done = λ u. let z : _≡_ {A = ℕ} 0 1 = cc in absurd (omega arith);
   }
 
-  ran : Ran (expansion-file f) choices before after answer → ExpansionRun f choices after answer
+  ran : Ran (expansion-file f) choices before after answer → ExpansionRun f choices before after answer
   unfolding plan-of declared-plan-of
-  ran r = go (r .ending) (subst (λ (p : Plan). Ends p (choices-of choices) (r .config) (r .ending)) same-plan (r .ends)) (ap (λ (x : End). x .verdict) (r .answers))
+  ran r =
+      go (r .ending) (subst (λ (p : Plan). Ends p (choices-of choices) (r .config) (r .ending)) same-plan (r .ends))
+      (subst (λ (a : Arrays). after ≡ holding a (r .config) before) same-arrays (r .holds)) (ap (λ (x : End). x .verdict) (r .answers))
     where
-      go : (x : Ending) → Ends (expansion-of f) (choices-of choices) (r .config) x →
-          answer .verdict ≡ end-of (arrays-of (expansion-file f)) (choices-of choices) (r .config) x .verdict → ExpansionRun f choices after answer
-      go finished h u = record {
+      go : (x : Ending) → Ends (expansion-of f) (choices-of choices) (r .config) x → after ≡ holding (arrays-of f) (r .config) before →
+          answer .verdict ≡ end-of (arrays-of (expansion-file f)) (choices-of choices) (r .config) x .verdict → ExpansionRun f choices before after answer
+      go finished h m u = record {
         unstopped = λ n c v. let z : _≡_ {A = ℕ} 0 1 = cc in omega arith;
-        done = λ v. adds (r .config) h (ap (λ (x : Lent). x .tally .moved) (r .holds) ∙ ap (λ (p : Plan). tally (p .arrays) (r .config .history) .moved) same-plan);
+        ended = λ w. subst DoneOrSpent (sym u) tt;
+        kept = λ w. kept (r .config) finished h m;
+        done = λ v. adds (r .config) h (ap (λ (x : Lent). x .tally .moved) m);
       }
-      go (stopped n c) h u = absurd (file-demand3 f accepted (choices-of choices) .unstuck (r .config) n c h)
-      go (out-of-choices n) h u = refused 22 n u
+      go (stopped n c) h m u = absurd (file-demand3 f accepted (choices-of choices) .unstuck (r .config) n c h)
+      go (out-of-choices n) h m u = record {
+        unstopped = λ n c v. let z : _≡_ {A = ℕ} 0 1 = cc in omega arith;
+        ended = λ w. subst DoneOrSpent (sym u) refl;
+        kept = λ w. kept (r .config) (out-of-choices n) h m;
+        done = λ v. let z : _≡_ {A = ℕ} 0 1 = cc in absurd (omega arith);
+      }
 
-  runs-as : (v : Verdict) → RunsAs (expansion-file f) choices before after answer v → ExpansionRun f choices after answer
-  runs-as Accepted r = ran r
-  runs-as (Stopped n c) r = absurd r
-  runs-as (Refused n p) r = refused n p (ap (λ (x : End). x .verdict) (r .1))
+  -- what 19 and 20 say of the expansion's file
+  short : Bool
+  short = let n = cells (arrays-of (expansion-file f)) in ltb (length (before .host)) n || ltb (length (before .card)) n || ltb (length (before .latest)) n
+
+  rows : first (run-rows (expansion-file f) choices before) ≡ first (row short 19 0 ∷ row (ltb 65536 (length choices)) 20 0 ∷ [])
+  unfolding run-rows opening short
+  rows =
+      let o = expansion-opens f accepted small in
+      sym (pass (open-rows (expansion-file f)) _ _ (sym (o .0)) (skips _ _ _ _ _ (rw (eq-eqb (kind-of (expansion-file f)) 2 (o .1))) refl))
+
+  long : Roomy f choices before → short ≡ false
+  unfolding short
+  long w = rw (same-arrays, le-ltb _ _ (w .0), le-ltb _ _ (w .1), le-ltb _ _ (w .2))
+
+  runs-as : RunsAs (expansion-file f) choices before after answer (first (run-rows (expansion-file f) choices before)) → ExpansionRun f choices before after answer
+  unfolding first
+  runs-as r = go short refl (ltb 65536 (length choices)) refl (subst (RunsAs (expansion-file f) choices before after answer) rows r)
+    where
+      go : (s : Bool) → short ≡ s → (t : Bool) → ltb 65536 (length choices) ≡ t →
+          RunsAs (expansion-file f) choices before after answer (first (row s 19 0 ∷ row t 20 0 ∷ [])) → ExpansionRun f choices before after answer
+      go true e t d r = refused 19 0 (ap (λ (x : End). x .verdict) (r .1)) (λ z. omega arith) (λ w. true≢false (sym e ∙ long w))
+      go false e true d r = refused 20 0 (ap (λ (x : End). x .verdict) (r .1)) (λ z. omega arith) (λ w. true≢false (sym d ∙ le-ltb _ _ (w .3)))
+      go false e false d r = ran r
 
 -- whatever the choices and the lent memories
 pub closed : (f out : List ℕ) → expand-answer f out ≡ Accepted →
-    (choices : List ℕ) (before after : Lent) (answer : End) → Runs (expansion-file f) choices before after answer → ExpansionRun f choices after answer
+    (choices : List ℕ) (before after : Lent) (answer : End) → Runs (expansion-file f) choices before after answer → ExpansionRun f choices before after answer
 unfolding Runs
-closed f out e choices before after answer =
+closed f out e choices before after answer r =
     let g = judged-and-small f out e in
-    runs-as f (g .0) (g .1) choices before after answer (first (run-rows (expansion-file f) choices before))
+    runs-as f (g .0) (g .1) choices before after answer r

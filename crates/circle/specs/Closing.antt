@@ -1,19 +1,24 @@
 -- The run of what the expander writes (document 01, demand 3 from bytes to bytes).
-use Prim.Native.Nat.{ℕ, zero, suc, _+_, _*_}
+use Prim.Native.Nat.{ℕ, zero, suc, _+_, _*_, _≤_, _<_}
 use mathlib.Core.Path.{_≡_}
+use mathlib.Core.Logic.{_⊎_}
+use mathlib.Core.Bool.{true}
 use mathlib.Core.List.{List}
-use lib.ListN.{length}
+use lib.ListN.{length, getD}
+use Rattle.model.specs.declared.Verdict.{Verdict}
 use Rattle.model.specs.declared.Record.{Record}
 use Rattle.model.specs.declared.Cell.{Cell}
-use Rattle.model.specs.declared.Verdict.the-variants.{Accepted, Stopped}
-use Rattle.model.specs.Sides.{Arrays, length-of}
-use Rattle.model.specs.Runs.{Config, finished, Ends}
-use Rattle.model.specs.Demand.{Made, moves, Moves}
+use Rattle.model.specs.declared.Verdict.the-variants.{Accepted, Stopped, Refused}
+use Rattle.model.specs.Sides.{Side, at, Arrays, cells, length-of, Cells, within}
+use Rattle.model.specs.Effects.{read}
+use Rattle.model.specs.Blocks.{Block, act}
+use Rattle.model.specs.Runs.{Config, Ending, finished, Run, Ends}
+use Rattle.model.specs.Demand.{latest-write, Made, moves, Moves}
 use Rattle.reading.specs.Bytes.{arrays-of}
 use Rattle.format.specs.Plans.{declared-plan-of}
 use Rattle.expand.specs.Expanded.{expansion-of}
 use Rattle.run.specs.declared.End.{End}
-use Rattle.run.specs.Running.{Lent}
+use Rattle.run.specs.Running.{Lent, holding}
 use Rattle.machine.specs.Choices.{choices-of}
 
 -- "An array moves at each need of it that copies": the cells that the moves of the arrays below n come to
@@ -28,8 +33,36 @@ pub record Adds (f choices : List ℕ) (after : Lent) : Type 0 where
   pub moved : Moves (declared-plan-of f) (choices-of choices) config
   pub adds : after .tally .moved ≡ moved-cells (arrays-of f) (moved .made) (length (arrays-of f))
 
--- what is claimed of a run of the expansion's file
-pub record ExpansionRun (f choices : List ℕ) (after : Lent) (answer : End) : Type 0 where
+-- numbers 19 and 20 do not hold: the memories are long enough, and the choices are at most 65,536
+abbrev pub Roomy : List ℕ → List ℕ → Lent → Type 0
+Roomy f choices before =
+    let n = cells (arrays-of f) in
+    (n ≤ length (before .host)) × (n ≤ length (before .card)) × (n ≤ length (before .latest)) × (length choices ≤ 65536)
+
+-- done, or "22 choices spent (record)"
+abbrev pub DoneOrSpent : Verdict → Type 0
+DoneOrSpent Accepted = Unit {0}
+DoneOrSpent (Stopped r c) = ⊥
+DoneOrSpent (Refused number place) = number ≡ 22
+
+-- of a run that is done or out of choices
+pub record Kept (f choices : List ℕ) (before after : Lent) : Type 0 where
+  -- memories and tally hold the state in which the run of the expansion ends
+  pub config : Config
+  pub ending : Ending
+  pub ends : Ends (expansion-of f) (choices-of choices) config ending
+  pub holds : after ≡ holding (arrays-of f) config before
+  -- each cell of the lent memories is current on some side
+  pub current : (c : ℕ) → c < cells (arrays-of f) →
+      (getD (after .host) c 0 ≡ getD (after .latest) c 0) ⊎ (getD (after .card) c 0 ≡ getD (after .latest) c 0)
+  -- each read that the run came to got, in each of its cells, the stamp of the latest write
+  pub reads : (k : Config) → Run (expansion-of f) (choices-of choices) k → (r : ℕ) (s : Side) (x : Cells) (b : Block) → k .left ≡ act r (read s x) b →
+      (c : ℕ) → c < cells (arrays-of f) → within (arrays-of f) x c ≡ true → k .state .held s c ≡ at (latest-write (arrays-of f) (k .history) c)
+
+-- what is claimed of a run of the expansion's file, whatever the choices and the lent memories
+pub record ExpansionRun (f choices : List ℕ) (before after : Lent) (answer : End) : Type 0 where
   -- no stop: the answer is never 21
   pub unstopped : (r : Record) (c : Cell) → answer .verdict ≡ Stopped r c → ⊥
+  pub ended : Roomy f choices before → DoneOrSpent (answer .verdict)
+  pub kept : DoneOrSpent (answer .verdict) → Kept f choices before after
   pub done : answer .verdict ≡ Accepted → Adds f choices after
