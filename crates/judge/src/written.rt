@@ -1,121 +1,16 @@
 // Number 15: whether every way through a pass writes what a W says.
 ghost use mathlib.Core.Path.{_≡_};
-ghost use mathlib.Core.Bool.{_&&_};
-ghost use Prim.Native.Nat.{ℕ, _+_, _-_, _≤_, _<_};
-ghost use lib.Dec.{leb, ltb};
-ghost use lib.ListN.{length, getD};
 ghost use Rattle.model.specs.Rows.{first, each};
 ghost use Rattle.reading.specs.Bytes.{declarations-in};
-ghost use Rattle.format.specs.Inner.Walks.{Walkable};
+ghost use Rattle.marks.specs.Inner.Marks.{Tables};
 ghost use Rattle.judge.specs.Judged.{w-rows};
 ghost use Rattle.judge.specs.Inner.Passes.{PassAt, ByArray};
-ghost use Rattle.judge.specs.Inner.Marks.{marked, Adds, all-marked, Tables, hits, always, met};
 use crate::Declared;
 use crate::Extent;
+use marks::mark_written;
+use marks::met;
 use model::Verdict;
-use reading::Fields;
 use reading::fields_at;
-use reading::first_arm;
-use reading::second_arm;
-
-// Marks the cells from `from` up to `end`.
-pub fn mark(set: &mut [bool; 4096], from: usize, end: usize)
-    requires { ⌜ (from ≤ end) × (end ≤ 4096) × (length (now set) ≡ 4096) ⌝ }
-    ensures { λ _. ⌜ Adds (now (set .entry)) (now (set .exit)) (λ (c : ℕ). leb from c && ltb c end) ⌝ }
-{
-    let mut c = from;
-    while c < end {
-        set[c] = true;
-        c += 1;
-    }
-}
-
-// Marks the cells that two sets have both.
-pub fn mark_both(set: &mut [bool; 4096], one: &[bool; 4096], two: &[bool; 4096])
-    requires { ⌜ length (now set) ≡ 4096 ⌝ }
-    ensures { λ _. ⌜ Adds (now (set .entry)) (now (set .exit)) (λ (c : ℕ). marked (now (one .entry)) c && marked (now (two .entry)) c) ⌝ }
-{
-    let mut c: usize = 0;
-    while c < 4096 {
-        set[c] = set[c] | (one[c] & two[c]);
-        c += 1;
-    }
-}
-
-// Marks the cells of a write with the fields x, if on the side for its array; of another record none.
-pub fn mark_record(starts: &[u16; 33], sides: &[u8; 32], set: &mut [bool; 4096], x: Fields)
-    requires { ⌜ (length (now set) ≡ 4096) × (x .kind ≡ 2 → (x .array < 32) × (x .p ≤ x .q) × (getD (now starts) (x .array) 0 + x .q ≤ 4096)) ⌝ }
-    ensures { λ _. ⌜ Adds (now (set .entry)) (now (set .exit)) (hits (now (starts .entry)) (now (sides .entry)) x) ⌝ }
-{
-    if x.kind != 2 {
-        return;
-    }
-    let a = x.array as usize;
-    let start = starts[a] as usize;
-    let side = sides[a];
-    if x.side == side {
-        mark(set, start + (x.p as usize), start + (x.q as usize));
-    }
-}
-
-// Marks the cells that every way through the records r up to `end` writes.
-pub fn mark_written(
-    plan: &[u8],
-    starts: &[u16; 33],
-    sides: &[u8; 32],
-    set: &mut [bool; 4096],
-    r: usize,
-    end: usize,
-)
-    requires { ⌜ (length (now set) ≡ 4096) × Tables (now plan) (now starts) (now sides) × (r ≤ end) × (end ≤ 1024) × Walkable (now plan) r end ⌝ }
-    ensures { λ _. ⌜ Adds (now (set .entry)) (now (set .exit)) (always (now (plan .entry)) (now (sides .entry)) r end) ⌝ }
-{
-    let mut at = r;
-    while at < end {
-        let x = fields_at(plan, at);
-        let second = at + 1 + first_arm(x);
-        let next = second + second_arm(x);
-        if x.kind == 6 {
-            let mut one = [false; 4096];
-            let mut two = [false; 4096];
-            mark_written(plan, starts, sides, &mut one, at + 1, second);
-            mark_written(plan, starts, sides, &mut two, second, next);
-            mark_both(set, &one, &two);
-        } else {
-            mark_record(starts, sides, set, x);
-        }
-        at = next;
-    }
-}
-
-// Whether all cells from `from` up to `end` are marked.
-pub fn all_marked(set: &[bool; 4096], from: usize, end: usize) -> bool
-    requires { ⌜ end ≤ 4096 ⌝ }
-    ensures { λ r. ⌜ r ≡ all-marked (now (set .entry)) from (end - from) ⌝ }
-{
-    let mut c = from;
-    while c < end {
-        if !set[c] {
-            return false;
-        }
-        c += 1;
-    }
-    true
-}
-
-// Whether a declaration with the fields x is met where the marked cells are written: a W is if all cells of its array are marked.
-pub fn met(starts: &[u16; 33], set: &[bool; 4096], x: Fields) -> bool
-    requires { ⌜ (x .array < 32) × (getD (now starts) (x .array) 0 ≤ getD (now starts) (x .array + 1) 0) × (getD (now starts) (x .array + 1) 0 ≤ 4096) ⌝ }
-    ensures { λ m. ⌜ m ≡ met (now (starts .entry)) (now (set .entry)) x ⌝ }
-{
-    if x.kind != 17 {
-        return true;
-    }
-    let a = x.array as usize;
-    let from = starts[a] as usize;
-    let end = starts[a + 1] as usize;
-    all_marked(set, from, end)
-}
 
 // Number 15: the lowest declaration of a pass that is not met.
 pub fn unmet(plan: &[u8], starts: &[u16; 33], e: Extent, d: Declared) -> Verdict

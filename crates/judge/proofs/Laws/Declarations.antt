@@ -28,8 +28,9 @@ use Rattle.judge.specs.declared.Declared.{Declared}
 use Rattle.judge.specs.declared.Extent.{Extent}
 use Rattle.judge.specs.Judged.{declared-before, record-rows}
 use Rattle.judge.specs.Inner.Passes.{PassAt, declared-field, kinds-of, ByArray, permitted, use-rows}
-use Rattle.judge.specs.Inner.Marks.{Tables}
-use Rattle.judge.proofs.Laws.Records.{same-side, facts, arrays-low, declaration-kind, declaration-array, other-kind, other-array, other-side}
+use Rattle.marks.specs.Inner.Marks.{Tables}
+use Rattle.marks.proofs.Walks.{same-side}
+use Rattle.judge.proofs.Laws.Records.{facts, arrays-low, declaration-kind, declaration-array, other-kind, other-array, other-side}
 
 -- the declarations from record r on
 abbrev declared : List ℕ → ℕ → ℕ → Declaration

@@ -7,68 +7,46 @@ use native.Nat.{ℕᴺ-discrete}
 use native.Mathlib.Decide.{decLt}
 use native.Mathlib.Omega.{arith}
 use lib.Dec.{ltb, eqb}
-use borrow.Author.Tests.{ltb-true, leb-true, eqb-true, le-ltb, ne-eqb}
+use borrow.Author.Tests.{ltb-true, eqb-true, le-ltb, ne-eqb}
 use Rattle.model.proofs.Booleans.{and-out}
-use Rattle.model.specs.Sides.{is}
 use Rattle.reading.specs.declared.Fields.{Fields}
 use Rattle.reading.specs.Bytes.{kind-of, array-count, body-count, length-at, declarations-in, sizes-of, first-record, fields-at, first-arm, second-arm}
 use Rattle.records.specs.Records.{fields-fit, allowed}
 use Rattle.format.specs.Inner.Walks.{Good, Walkable, block-between}
-use Rattle.format.specs.Plans.{side-of, pass-at}
+use Rattle.format.specs.Plans.{pass-at}
 use Rattle.reading.proofs.Ranges.{of-range}
 use Rattle.reading.proofs.Tables.{first-rises, next-record}
-use Rattle.records.proofs.Fields.{Sizes, fit-cells, fit-array, fit-declaration, fit-branch, fit-loop}
+use Rattle.records.proofs.Fields.{Sizes, fit-declaration, fit-branch, fit-loop}
 use Rattle.format.proofs.Walking.{Facts, opened-facts, good-parts}
+use Rattle.format.proofs.Acts.{cells-fit, array-fits}
 use Rattle.format.proofs.Trees.{pass-declaration, pass-walk, pass-body}
 use Rattle.judge.specs.declared.Extent.{Extent}
 use Rattle.judge.specs.Inner.Passes.{PassAt}
-
--- a side and an array, by their numbers in the file
-pub same-side : (s t : ℕ) → s < 2 → t < 2 → is (side-of s) (side-of t) ≡ eqb s t
-same-side s t h k = elim (ℕᴺ-discrete s 0) [
-  | yes u ↦ elim (ℕᴺ-discrete t 0) [ yes v ↦ rw (u, v) | no v ↦ let w : t ≡ 1 = omega arith in rw (u, w) ]
-  | no u ↦ let z : s ≡ 1 = omega arith in elim (ℕᴺ-discrete t 0) [ yes v ↦ rw (z, v) | no v ↦ let w : t ≡ 1 = omega arith in rw (z, w) ]
-]
 
 -- what the rule of the fields says
 module _ (f : List ℕ) (x : Fields) (fits : fields-fit f x ≡ true) where
   sizes : Sizes f x (array-count f) (body-count f) (length-at f (x .array))
   sizes = record { arrays-are = refl; bodies-are = refl; size-is = refl }
 
-  pub cells-fit : 1 ≤ x .kind → x .kind ≤ 3 → (x .side < 2) × (x .array < array-count f) × (x .p ≤ x .q) × (x .q ≤ length-at f (x .array))
-  cells-fit h k =
+  declaration-fits : 16 ≤ x .kind → x .kind ≤ 18 → (x .side < 2) × (x .array < array-count f)
+  declaration-fits h k =
       let on-side = ltb (x .side) 2 in
       let on-array = ltb (x .array) (array-count f) in
       let last-zero = eqb (x .zero) 0 in
-      let w₁ = and-out (on-side && on-array && last-zero && ltb (x .p) (x .q)) _ (fit-cells f x _ _ _ sizes h k ∙ fits) in
-      let w₂ = and-out (on-side && on-array && last-zero) _ (w₁ .0) in
-      let w₃ = and-out (on-side && on-array) _ (w₂ .0) in
-      let w₄ = and-out on-side _ (w₃ .0) in
-      let less : x .p < x .q = ltb-true _ _ (w₂ .1) in
-      (ltb-true _ _ (w₄ .0), ltb-true _ _ (w₄ .1), omega arith, leb-true _ _ (w₁ .1))
-
-  array-fits : (ltb (x .side) 2 && ltb (x .array) (array-count f) && eqb (x .zero) 0 && eqb (x .p) 0 && eqb (x .q) 0) ≡ fields-fit f x → (x .side < 2) × (x .array < array-count f)
-  array-fits e =
-      let on-side = ltb (x .side) 2 in
-      let on-array = ltb (x .array) (array-count f) in
-      let last-zero = eqb (x .zero) 0 in
-      let w₁ = and-out (on-side && on-array && last-zero && eqb (x .p) 0) _ (e ∙ fits) in
+      let w₁ = and-out (on-side && on-array && last-zero && eqb (x .p) 0) _ (fit-declaration f x _ _ _ sizes h k ∙ fits) in
       let w₂ = and-out (on-side && on-array && last-zero) _ (w₁ .0) in
       let w₃ = and-out (on-side && on-array) _ (w₂ .0) in
       let w₄ = and-out on-side _ (w₃ .0) in
       (ltb-true _ _ (w₄ .0), ltb-true _ _ (w₄ .1))
-
-  declaration-fits : 16 ≤ x .kind → x .kind ≤ 18 → (x .side < 2) × (x .array < array-count f)
-  declaration-fits h k = array-fits (fit-declaration f x _ _ _ sizes h k)
 
   no-array : (eqb (x .side) 0 && eqb (x .array) 0 && eqb (x .zero) 0) ≡ true → x .array ≡ 0
   no-array e = eqb-true _ _ (and-out (eqb (x .side) 0) _ (and-out (eqb (x .side) 0 && eqb (x .array) 0) _ e .0) .1)
 
   array-below : 1 ≤ array-count f → 1 ≤ x .kind → x .kind ≤ 7 → x .array < array-count f
   array-below n h k = elim (decLt (x .kind) 4) [
-    | yes u ↦ cells-fit h (omega arith) .1
+    | yes u ↦ cells-fit f x fits h (omega arith) .0 .1
     | no u ↦ elim (decLt (x .kind) 6) [
-      | yes v ↦ array-fits (fit-array f x _ _ _ sizes (omega arith) (omega arith)) .1
+      | yes v ↦ array-fits f x fits (omega arith) (omega arith) .1
       | no v ↦ elim (ℕᴺ-discrete (x .kind) 6) [
         | yes six ↦ let z = no-array (fit-branch f x _ _ _ sizes six ∙ fits) in omega arith
         | no more ↦
@@ -139,7 +117,7 @@ module _ (f : List ℕ) (e : Extent) (p : PassAt f e) where
     other-array = array-below f _ (tested i l .0) (facts .bounds .header .arrays .0) (other-kind .0) (other-kind .1)
 
     pub other-side : fields-at f (e .from + i) .kind ≤ 3 → fields-at f (e .from + i) .side < 2
-    other-side k = cells-fit f _ (tested i l .0) (other-kind .0) k .0
+    other-side k = omega (arith, cells-fit f _ (tested i l .0) (other-kind .0) k .0 .0)
 
   -- all of them, as a block
   pub others-walk : Walkable f (e .from + e .declarations) (e .from + e .records)

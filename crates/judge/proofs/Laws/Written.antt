@@ -22,10 +22,10 @@ use Rattle.judge.specs.declared.Declared.{Declared}
 use Rattle.judge.specs.declared.Extent.{Extent}
 use Rattle.judge.specs.Judged.{all-written, w-rows}
 use Rattle.judge.specs.Inner.Passes.{PassAt, ByArray}
-use Rattle.judge.specs.Inner.Marks.{marked, Adds, all-marked, Tables, always, met}
+use Rattle.marks.specs.Inner.Marks.{marked, Adds, all-marked, Tables, always, met}
 use Rattle.judge.proofs.Laws.Records.{declaration-array, others-block}
 use Rattle.judge.proofs.Laws.Declarations.{side-kept}
-use Rattle.judge.proofs.Laws.Marks.{none-marked}
+use Rattle.marks.proofs.Marks.{none-marked}
 
 -- cells that are marked exactly if they are always written
 all-same : (arrays : Arrays) (s : Side) (body : Block) (l : List Bool) (c n : ℕ) → ((k : ℕ) → c ≤ k → k < c + n → marked l k ≡ always-writes arrays s k body) → all-marked l c n ≡ all-written arrays s body c n

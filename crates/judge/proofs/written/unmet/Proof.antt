@@ -7,7 +7,7 @@ use Rattle.model.specs.Rows.{first, each}
 use Rattle.model.proofs.Rows.{refused, each-none, each-more, each-stop}
 use Rattle.judge.specs.Judged.{w-rows}
 use Rattle.judge.proofs.Laws.Records.{declared-low, records-low, others-walk}
-use Rattle.judge.proofs.Laws.Marks.{length-none}
+use Rattle.marks.proofs.Marks.{length-none}
 use Rattle.judge.proofs.Laws.Written.{starts-fit, w-unmet, w-met}
 use borrow.Author.Needs.{needs}
 use Rattle.judge.proofs.written.unmet.Statement.{statement}

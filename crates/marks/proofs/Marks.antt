@@ -12,7 +12,7 @@ use lib.ListN.{length, getD, set, replicate, length-replicate, length-set}
 use lib.Seq.{getD-set-same, getD-set-other}
 use borrow.Author.Tests.{lt-ltb, le-ltb, le-leb, lt-leb, eq-eqb, ne-eqb}
 use Rattle.reading.specs.declared.Fields.{Fields}
-use Rattle.judge.specs.Inner.Marks.{marked, Adds, all-marked, hits, met}
+use Rattle.marks.specs.Inner.Marks.{marked, Adds, all-marked, hits, met}
 
 same-below : (k c : ℕ) → (k ≡ c → ⊥) → ltb k c ≡ ltb k (c + 1)
 same-below k c e = elim (decLt k c) [

@@ -17,10 +17,17 @@ use Rattle.reading.specs.Bytes.{array-count, arrays-of, fields-at, first-arm, s
 use Rattle.format.specs.Plans.{side-of, action-of}
 use Rattle.format.specs.Inner.Walks.{Walkable}
 use Rattle.format.proofs.Walking.{steps}
+use Rattle.format.proofs.Acts.{cells-fit, Arms, arms}
 use Rattle.reading.proofs.Tables.{array-length}
 use Rattle.format.proofs.Trees.{block-none, block-branch, block-loop, block-act}
-use Rattle.judge.specs.Inner.Marks.{marked, Adds, Tables, hits, always}
-use Rattle.judge.proofs.Laws.Records.{same-side, cells-fit}
+use Rattle.marks.specs.Inner.Marks.{marked, Adds, Tables, hits, always}
+
+-- a side, by its number in the file
+pub same-side : (s t : ℕ) → s < 2 → t < 2 → is (side-of s) (side-of t) ≡ eqb s t
+same-side s t h k = elim (ℕᴺ-discrete s 0) [
+  | yes u ↦ elim (ℕᴺ-discrete t 0) [ yes v ↦ rw (u, v) | no v ↦ let w : t ≡ 1 = omega arith in rw (u, w) ]
+  | no u ↦ let z : s ≡ 1 = omega arith in elim (ℕᴺ-discrete t 0) [ yes v ↦ rw (z, v) | no v ↦ let w : t ≡ 1 = omega arith in rw (z, w) ]
+]
 
 -- a record that is no write writes no cell
 no-write : (arrays : Arrays) (s : Side) (c : ℕ) (x : Fields) → (x .kind ≡ 2 → ⊥) → writes-cell arrays s c (action-of x) ≡ false
@@ -42,14 +49,8 @@ pub record RecordAt (f : List ℕ) (r end : ℕ) (x : Fields) (i j : ℕ) : Type
   pub two : j ≡ second-arm x
 
 -- its arms and the rest
-pub record Arms (f : List ℕ) (r end i j : ℕ) : Type 0 where
-  pub inside : r + 1 + i + j ≤ end
-  pub one : Walkable f (r + 1) (r + 1 + i)
-  pub two : Walkable f (r + 1 + i) (r + 1 + i + j)
-  pub rest : Walkable f (r + 1 + i + j) end
-
 pub arms-of : (f : List ℕ) (r end : ℕ) (x : Fields) (i j : ℕ) → RecordAt f r end x i j → Arms f r end i j
-arms-of f r end x i j h = rw (h .one, h .two) (let s = steps f r end (h .less) (h .walk) x (h .fields) in record { inside = s .inside; one = s .one; two = s .two; rest = s .rest })
+arms-of f r end x i j h = arms (steps f r end (h .less) (h .walk) x (h .fields)) i j (h .one) (h .two)
 
 module _ (f starts sides : List ℕ) (t : Tables f starts sides) where
   abbrev side-at : ℕ → Side
@@ -76,7 +77,7 @@ module _ (f starts sides : List ℕ) (t : Tables f starts sides) where
       fits : (x .side < 2) × (x .array < array-count f) × (x .p ≤ x .q) × (x .q ≤ length-of (arrays-of f) (x .array))
       fits =
           let w = cells-fit f x (steps f r end (h .less) (h .walk) x (h .fields) .fits) (omega arith) (omega arith) in
-          (w .0, w .1, w .2, rw (array-length f (x .array) (w .1)) (w .3))
+          (omega arith, w .0 .1, omega arith, rw (array-length f (x .array) (w .0 .1)) (w .2))
 
       pub write-fits : (x .array < 32) × (x .p ≤ x .q) × (getD starts (x .array) 0 + x .q ≤ 4096)
       write-fits = (omega (arith, fits .1, t .arrays-low), fits .2, rw (t .starts-are (x .array) (omega (arith, fits .1))) (omega (arith, fits .3, array-ends (arrays-of f) (x .array), t .cells-low)))

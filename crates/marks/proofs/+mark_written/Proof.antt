@@ -1,4 +1,4 @@
--- `judge::written::mark_written` marks the cells that every way through a block writes. The invariant: whatever set has the cells of the records left and those
+-- `marks::mark_written` marks the cells that every way through a block writes. The invariant: whatever set has the cells of the records left and those
 -- marked here, has those of the block and those marked before. The measure is the number of records.
 use mathlib.Core.Path.{_≡_}
 use mathlib.Core.Bool.{Bool}
@@ -6,23 +6,24 @@ use mathlib.Core.List.{List}
 use native.Mathlib.Omega.{arith}
 use lib.ListN.{length}
 use Rattle.format.specs.Inner.Walks.{Walkable}
-use Rattle.judge.specs.Inner.Marks.{Adds, always}
-use Rattle.judge.proofs.Laws.Marks.{length-none, none-marked}
-use Rattle.judge.proofs.Laws.Walks.{RecordAt, Arms, arms-of, write-fits, adds-none, adds-branch, adds-other}
+use Rattle.format.proofs.Acts.{Arms}
+use Rattle.marks.specs.Inner.Marks.{Adds, always}
+use Rattle.marks.proofs.Marks.{length-none, none-marked}
+use Rattle.marks.proofs.Walks.{RecordAt, arms-of, write-fits, adds-none, adds-branch, adds-other}
 use borrow.Author.Needs.{needs}
 use Prim.Native.Nat.{ℕ, _-_, _≤_, _<_}
 use borrow.Fn.Kinds.{In}
 use borrow.Fn.PlainCycle.{Measures, is, falls, and}
-use Rattle.judge.proofs.written.mark_written.Reads as mark-written
-use Rattle.judge.proofs.written.mark_written.Kinds as mark-written-kinds
-use Rattle.judge.proofs.written.+mark_written.Lts-mark_written as mark-written-lts
+use Rattle.marks.proofs.mark_written.Reads as mark-written
+use Rattle.marks.proofs.mark_written.Kinds as mark-written-kinds
+use Rattle.marks.proofs.+mark_written.Lts-mark_written as mark-written-lts
 use Rattle.reading.proofs.fields_at.Reads as fields-at-reads
 use Rattle.reading.proofs.first_arm.Reads as first-arm-reads
 use Rattle.reading.proofs.second_arm.Reads as second-arm-reads
-use Rattle.judge.proofs.written.mark_both.Reads as mark-both-reads
-use Rattle.judge.proofs.written.mark_record.Reads as mark-record-reads
-use Rattle.judge.proofs.written.+mark_written.{statement}
-use Rattle.judge.proofs.written.+mark_written.Tie.{close}
+use Rattle.marks.proofs.mark_both.Reads as mark-both-reads
+use Rattle.marks.proofs.mark_record.Reads as mark-record-reads
+use Rattle.marks.proofs.+mark_written.{statement}
+use Rattle.marks.proofs.+mark_written.Tie.{close}
 
 abbrev μ-mark-written : Measures 4 mark-written-kinds.ps ℕ
 μ-mark-written κs a = a .1 .1 .1 .1 .1 .0 - a .1 .1 .1 .1 .0

@@ -1,8 +1,8 @@
--- `judge::written::met` says whether a declaration is met: one that is no W, or a W of an array whose cells are all marked.
-use Rattle.judge.proofs.Laws.Marks.{met-other, met-w}
+-- `marks::met` says whether a declaration is met: one that is no W, or a W of an array whose cells are all marked.
+use Rattle.marks.proofs.Marks.{met-other, met-w}
 use borrow.Author.Needs.{needs}
-use Rattle.judge.proofs.written.met.Statement.{statement}
-use Rattle.judge.proofs.written.met.Tie as tie
+use Rattle.marks.proofs.met.Statement.{statement}
+use Rattle.marks.proofs.met.Tie as tie
 
 returns : tie.Need-returns
 returns c = met-other _ _ _ (c .if1 .taken)

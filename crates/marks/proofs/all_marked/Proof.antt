@@ -1,12 +1,12 @@
--- `judge::written::all_marked` says whether all cells of a range are marked. The invariant: they are exactly if those from c on are.
+-- `marks::all_marked` says whether all cells of a range are marked. The invariant: they are exactly if those from c on are.
 use mathlib.Core.Path.{_≡_, refl, sym, _∙_}
 use Prim.Native.Nat.{_-_}
 use borrow.Author.Tests.{not-true, not-false}
-use Rattle.judge.specs.Inner.Marks.{marked, all-marked}
-use Rattle.judge.proofs.Laws.Marks.{all-next, all-not, all-end}
+use Rattle.marks.specs.Inner.Marks.{marked, all-marked}
+use Rattle.marks.proofs.Marks.{all-next, all-not, all-end}
 use borrow.Author.Needs.{needs}
-use Rattle.judge.proofs.written.all_marked.Statement.{statement}
-use Rattle.judge.proofs.written.all_marked.Tie as tie
+use Rattle.marks.proofs.all_marked.Statement.{statement}
+use Rattle.marks.proofs.all_marked.Tie as tie
 
 abbrev Inv-loop : tie.InvT-loop
 Inv-loop set from end c₀ c = all-marked set from (end - from) ≡ all-marked set c (end - c)

@@ -1,14 +1,14 @@
--- `judge::written::mark` marks the cells of a range. The invariant: the cells from `from` up to c are marked.
+-- `marks::mark` marks the cells of a range. The invariant: the cells from `from` up to c are marked.
 use mathlib.Core.Path.{_≡_}
 use mathlib.Core.Bool.{_&&_}
 use Prim.Native.Nat.{_-_, _≤_}
 use native.Mathlib.Omega.{arith}
 use lib.Dec.{leb, ltb}
-use Rattle.judge.specs.Inner.Marks.{Adds}
-use Rattle.judge.proofs.Laws.Marks.{range-none, range-next}
+use Rattle.marks.specs.Inner.Marks.{Adds}
+use Rattle.marks.proofs.Marks.{range-none, range-next}
 use borrow.Author.Needs.{needs}
-use Rattle.judge.proofs.written.mark.Statement.{statement}
-use Rattle.judge.proofs.written.mark.Tie as tie
+use Rattle.marks.proofs.mark.Statement.{statement}
+use Rattle.marks.proofs.mark.Tie as tie
 
 abbrev Inv-loop : tie.InvT-loop
 Inv-loop set₀ from end c₀ set c = (from ≤ c) × (c ≤ end) × Adds set₀ set (λ k. leb from k && ltb k c)

@@ -1,9 +1,9 @@
--- `judge::written::mark_record` marks the cells of a write on the side for its array, and of another record none.
+-- `marks::mark_record` marks the cells of a write on the side for its array, and of another record none.
 use native.Mathlib.Omega.{arith}
-use Rattle.judge.proofs.Laws.Marks.{hits-other, hits-side, hits-write}
+use Rattle.marks.proofs.Marks.{hits-other, hits-side, hits-write}
 use borrow.Author.Needs.{needs}
-use Rattle.judge.proofs.written.mark_record.Statement.{statement}
-use Rattle.judge.proofs.written.mark_record.Tie as tie
+use Rattle.marks.proofs.mark_record.Statement.{statement}
+use Rattle.marks.proofs.mark_record.Tie as tie
 
 returns : tie.Need-returns
 returns c = hits-other _ _ _ _ (c .before .before .pre .0) (c .if1 .taken)

@@ -1,13 +1,13 @@
--- `judge::written::mark_both` marks the cells that two sets have both. The invariant: those of them before c are marked.
+-- `marks::mark_both` marks the cells that two sets have both. The invariant: those of them before c are marked.
 use mathlib.Core.Bool.{_&&_}
 use Prim.Native.Nat.{_-_, _≤_}
 use native.Mathlib.Omega.{arith}
 use lib.Dec.{ltb}
-use Rattle.judge.specs.Inner.Marks.{marked, Adds}
-use Rattle.judge.proofs.Laws.Marks.{both-none, both-next, both-all}
+use Rattle.marks.specs.Inner.Marks.{marked, Adds}
+use Rattle.marks.proofs.Marks.{both-none, both-next, both-all}
 use borrow.Author.Needs.{needs}
-use Rattle.judge.proofs.written.mark_both.Statement.{statement}
-use Rattle.judge.proofs.written.mark_both.Tie as tie
+use Rattle.marks.proofs.mark_both.Statement.{statement}
+use Rattle.marks.proofs.mark_both.Tie as tie
 
 abbrev Inv-loop : tie.InvT-loop
 Inv-loop set₀ one two c₀ set c = (c ≤ 4096) × Adds set₀ set (λ k. ltb k c && (marked one k && marked two k))

@@ -1,0 +1,2 @@
+-- What the functions that mark cells ask and give.
+pub mod Inner
