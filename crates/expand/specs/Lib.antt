@@ -1,3 +1,2 @@
 -- What the expander answers and writes.
 pub mod Expanded
-pub mod Inner

@@ -1,16 +1,38 @@
 // The expander: a declared plan that the judge accepts, written as the file of a plain plan.
 ghost use mathlib.Core.Path.{_≡_};
+ghost use Prim.Native.Nat.{_≤_};
+ghost use lib.ListN.{length};
+ghost use Rattle.reading.specs.Bytes.{records-in};
 ghost use Rattle.judge.specs.Judged.{judged};
-ghost use Rattle.expand.specs.Expanded.{expand-answer, expanded};
+ghost use Rattle.sizes.specs.Inner.Sizes.{DeclaredFile, BodyStarts, Places, place};
+ghost use Rattle.writer.specs.Inner.Pieces.{over};
+ghost use Rattle.expand.specs.Expanded.{expansion-file, expand-answer, expanded};
 use model::Verdict;
 use reading::byte;
 use sizes::body_starts;
 use sizes::pass_sizes;
 use sizes::places;
-use writer::put_file;
+use writer::put_body;
+use writer::put_bytes;
+use writer::put_checks;
+use writer::put_entry;
+use writer::put_header;
 
-mod sizes;
-mod writer;
+// The expansion's file: header and contents, then the records in the part behind them, then the check bytes.
+fn put_file(plan: &[u8], starts: &[u16; 33], places: &[u32; 1025], out: &mut [u8], end: usize)
+    requires { ⌜ DeclaredFile (now plan) × BodyStarts (now plan) (now starts) × Places (now plan) end (now places) × (end ≡ records-in (now plan) 0) × (place (now plan) end ≤ 1024) × (length (expansion-file (now plan)) ≤ length (now out)) ⌝ }
+    ensures { λ _. ⌜ now (out .exit) ≡ over (expansion-file (now (plan .entry))) (now (out .entry)) ⌝ }
+{
+    let arrays = byte(plan, 1);
+    let records = places[end];
+    let entry = 4 + 2 * (arrays as usize);
+    let bodies = entry + 4;
+    put_header(out, arrays);
+    put_bytes(&mut out[4..], &plan[4..entry]);
+    put_entry(&mut out[entry..], records as u16);
+    put_body(plan, starts, places, &mut out[bodies..], end);
+    put_checks(out, bodies + 8 * (records as usize));
+}
 
 // The judge's answer, 16, 17, or accepted with the expansion's file written over the front of the output.
 pub fn expand_judged(plan: &[u8], out: &mut [u8], answer: Verdict) -> Verdict

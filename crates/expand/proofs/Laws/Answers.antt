@@ -12,7 +12,8 @@ use Rattle.format.specs.Opening.{open-rows, opening}
 use Rattle.model.proofs.Rows.{holds, skips, skipped, empty, stop, pass, passed}
 use Rattle.judge.specs.Judged.{judge-rows, judged}
 use Rattle.expand.specs.Expanded.{expansion-of, expansion-file, expand-answer, written, expanded}
-use Rattle.expand.specs.Inner.Parts.{DeclaredFile, over}
+use Rattle.sizes.specs.Inner.Sizes.{DeclaredFile}
+use Rattle.writer.specs.Inner.Pieces.{over}
 
 module _ (f : List ℕ) where
   -- a plan that the judge accepts opens as a declared plan

@@ -16,11 +16,13 @@ use Rattle.reading.proofs.Tables.{arrays-counted}
 use Rattle.format.proofs.Walking.{opened-facts}
 use Rattle.files.proofs.RoundTrip.{plain-length}
 use Rattle.expand.specs.Expanded.{expansion-of, expansion-file}
-use Rattle.expand.specs.Inner.Parts.{DeclaredFile, over, bytes-of, place, pieces}
-use Rattle.expand.proofs.Laws.Over.{over-lent, over-again, over-front}
-use Rattle.expand.proofs.Laws.Blocks.{bytes-length}
-use Rattle.expand.proofs.Laws.Bytes.{lengths-again}
-use Rattle.expand.proofs.Laws.Pieces.{pieces-length, expansion-fields, expansion-size}
+use Rattle.sizes.specs.Inner.Sizes.{DeclaredFile, place}
+use Rattle.writer.specs.Inner.Pieces.{over, bytes-of, pieces}
+use Rattle.writer.proofs.Records.{bytes-length}
+use Rattle.writer.proofs.Over.{over-lent, over-again, over-front}
+use Rattle.writer.proofs.Bytes.{lengths-again}
+use Rattle.writer.proofs.Pieces.{pieces-length}
+use Rattle.expand.proofs.Laws.Pieces.{expansion-fields, expansion-size}
 
 -- header and array lengths, with the entry of the body, with the records
 unfoldable pub lengths-written : List ℕ → List ℕ

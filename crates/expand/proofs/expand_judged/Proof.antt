@@ -9,8 +9,9 @@ use Rattle.reading.specs.Bytes.{records-in}
 use Rattle.model.proofs.Rows.{turned}
 use Rattle.judge.specs.Judged.{judged}
 use Rattle.expand.specs.Expanded.{expansion-of, expansion-file}
-use Rattle.expand.specs.Inner.Parts.{DeclaredFile, place}
-use Rattle.expand.proofs.Laws.Pieces.{body0-few, end-read, expansion-size, size-read-off}
+use Rattle.sizes.specs.Inner.Sizes.{DeclaredFile, place}
+use Rattle.sizes.proofs.Body0.{end-read, body0-few}
+use Rattle.expand.proofs.Laws.Pieces.{expansion-size, size-read-off}
 use Rattle.expand.proofs.Laws.Files.{expansion-length}
 use Rattle.expand.proofs.Laws.Answers.{accepted-file, judge-refuses, too-large, too-short, expands}
 use borrow.Author.Needs.{needs}

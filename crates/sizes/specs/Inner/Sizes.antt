@@ -1,0 +1,52 @@
+-- No promise of an entry point rests on this text: how many records the expansion has for each record of body 0.
+use Prim.Native.Nat.{ℕ, zero, suc, _+_, _≤_, _<_}
+use mathlib.Core.Path.{_≡_}
+use mathlib.Core.Bool.{cond}
+use mathlib.Core.List.{List}
+use lib.Dec.{eqb}
+use lib.ListN.{getD}
+use Rattle.model.specs.declared.Verdict.the-variants.{Accepted}
+use Rattle.model.specs.Blocks.{Block, size}
+use Rattle.model.specs.Expanding.{given, declared}
+use Rattle.reading.specs.declared.Fields.{Fields}
+use Rattle.reading.specs.Bytes.{kind-of, body-count, table, first-record, fields-at}
+use Rattle.format.specs.Opening.{opening}
+use Rattle.format.specs.Plans.{declaration-of, pass-at}
+
+-- a file that opens as a declared plan
+pub record DeclaredFile (f : List ℕ) : Type 0 where
+  pub opened : Accepted ≡ opening f
+  pub kind : kind-of f ≡ 1
+
+-- what a declaration with the fields x gives
+unfoldable pub given-by : Fields → Block
+given-by x = let d = declaration-of x in given (d .mode) (d .side) (d .array) Block.done
+
+-- what the n declarations from record r on give
+unfoldable pub declared-from : List ℕ → ℕ → ℕ → Block
+declared-from f r n = declared (table (λ i. declaration-of (fields-at f (r + i))) n) Block.done
+
+-- what stands for a call of body b: what the pass's declarations give, and then its other records
+unfoldable pub called : List ℕ → ℕ → Block
+called f b = declared (pass-at f b .declarations) (pass-at f b .body)
+
+-- how many records stand for record r of body 0
+unfoldable pub record-size : List ℕ → ℕ → ℕ
+record-size f r = cond (eqb (fields-at f r .kind) 8) (size (called f (fields-at f r .p))) 1
+
+-- how many stand for the records before r
+unfoldable pub place : List ℕ → ℕ → ℕ
+place f zero = 0
+place f (suc r) = place f r + record-size f r
+
+-- the first record of each body; the entry after the last has their number
+pub record BodyStarts (f : List ℕ) (starts : List ℕ) : Type 0 where
+  pub each : (b : ℕ) → b ≤ body-count f → getD starts b 0 ≡ first-record f b
+
+-- how many records a call of each pass becomes
+pub record PassSizes (f : List ℕ) (sizes : List ℕ) : Type 0 where
+  pub each : (b : ℕ) → 1 ≤ b → b < body-count f → getD sizes b 0 ≡ size (called f b)
+
+-- the places of body 0's records, up to record `end`
+pub record Places (f : List ℕ) (end : ℕ) (places : List ℕ) : Type 0 where
+  pub each : (r : ℕ) → r ≤ end → getD places r 0 ≡ place f r

@@ -1,0 +1,2 @@
+-- How many records the expansion has.
+pub mod Inner

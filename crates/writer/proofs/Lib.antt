@@ -1,0 +1,6 @@
+-- Laws that the functions' proofs cite
+pub mod Over
+pub mod Records
+pub mod Bytes
+pub mod Passes
+pub mod Pieces

@@ -1,0 +1,2 @@
+-- The records of the expansion, as they are written.
+pub mod Inner
