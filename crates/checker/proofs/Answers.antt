@@ -1,22 +1,25 @@
 -- The answer over the cells, one cell at a time, and the answer of a plan file.
 use Prim.Native.Nat.{ℕ, zero, suc, _+_, _-_, _≤_, _<_}
-use mathlib.Core.Path.{_≡_, refl, sym, ap, _∙_}
-use mathlib.Core.Bool.{Bool, true, false, cond}
+use mathlib.Core.Path.{_≡_, refl, sym, ap, subst, _∙_}
+use mathlib.Core.Logic.{inl, inr, _↔_}
+use mathlib.Core.Bool.{Bool, true, false, cond, true≢false}
 use mathlib.Core.Option.{Option, none, some}
 use mathlib.Core.List.{List}
 use native.Mathlib.Decide.{decLt}
 use native.Mathlib.Numerals.{add-one}
 use native.Mathlib.Omega.{arith}
-use lib.Dec.{ltb}
+use lib.Dec.{eqb, ltb}
 use lib.ListN.{getD}
-use borrow.Author.Tests.{eq-eqb, ne-eqb, lt-ltb, le-ltb}
+use borrow.Author.Tests.{eqb-false, eq-eqb, ne-eqb, lt-ltb, le-ltb}
 use Rattle.model.specs.declared.Verdict.{Verdict}
 use Rattle.model.specs.declared.Verdict.the-variants.{Accepted, Stopped, Refused}
 use Rattle.model.specs.declared.Record.{Record}
 use Rattle.model.specs.declared.Cell.{Cell}
 use Rattle.model.specs.Sides.{length-of, first-of, array-of}
 use Rattle.model.specs.Verdicts.{stop}
-use Rattle.model.proofs.Summary.{Summary, summary}
+use Rattle.model.proofs.Bits.{equal, equal-same, equal-true}
+use Rattle.model.proofs.Status.{Status, width, bits, status-at}
+use Rattle.model.proofs.Summary.{same, AtMost, Least, means}
 use Rattle.model.proofs.Numbering.{array-from}
 use Rattle.model.proofs.Check.{with-cell, over-cells, cell-stop}
 use Rattle.reading.specs.Bytes.{array-count, arrays-of, record-count, fields-at}
@@ -24,10 +27,45 @@ use Rattle.format.specs.Plans.{plan-of}
 use Rattle.format.specs.Inner.Walks.{Plain, Starts, block-between}
 use Rattle.reading.proofs.Tables.{first-more, first-rises, all-cells}
 use Rattle.format.proofs.Walking.{opened-facts}
-use Rattle.checker.specs.declared.summary.Summary.{Summary as Stored}
-use Rattle.checker.specs.Inner.Summaries.{record-of, reading, at-start}
+use Rattle.checker.specs.declared.acts.Found.{Found}
+use Rattle.checker.specs.Inner.Sets.{index, bit, In, record-of, at-start}
+use Rattle.checker.specs.Inner.Ways.{Below, Ran, cell-at, Passed}
 use Rattle.checker.specs.Inner.Walks.{Span, Clear, Marked}
+use Rattle.checker.proofs.Statuses.{all-equal}
 use Rattle.checker.proofs.Classes.{stop-alike}
+
+-- the status at the start is the only one in this set
+start-in : (u : Status) → In 1024 u ↔ (u ≡ at-start)
+unfolding bit equal
+start-in u = (λ e. ap status-at (equal-true width (bits u) (bits at-start) (sym (test u) ∙ e)), λ e. rw e (test at-start ∙ equal-same width (bits at-start)))
+  where
+    test : (u : Status) → bit 1024 (index u) ≡ same u at-start
+    test = all-equal (λ u. bit 1024 (index u)) (λ u. same u at-start) refl
+
+-- what is found from it is the lowest stop
+least-found : {G : Status → Status → Type 0} {S : Status → ℕ → Type 0} (t : Found) → Ran G S (In 1024) 65535 t → Least (record-of (t .low)) (S at-start)
+least-found {S = S} t m = record { named = λ n e. go (eqb (t .low) 65535) refl n e; least = λ r s. below r (m .least at-start r (start-in at-start .1 refl) s) }
+  where
+    go : (b : Bool) → eqb (t .low) 65535 ≡ b → (n : ℕ) → cond b none (some (t .low)) ≡ some n → S at-start n
+    go true q n e = absurd (true≢false (cc))
+    go false q n e = let z : t .low ≡ n = cc in elim (m .named) [
+      | inl d ↦ absurd (eqb-false (t .low) 65535 q d)
+      | inr p ↦ rw (← z) (subst (λ u. S u (t .low)) (start-in (p .0) .0 (p .1)) (p .2))
+    ]
+
+    below : (r : ℕ) → Below (t .low) r → AtMost (record-of (t .low)) r
+    below r h = rw (ne-eqb (t .low) 65535 (λ e. omega arith)) (h .0)
+
+-- and there is but one
+least-same : {P : ℕ → Type 0} (a b : Option ℕ) → Least a P → Least b P → a ≡ b
+least-same none none p q = refl
+least-same none (some k) p q = absurd (p .least k (q .named k refl))
+least-same (some j) none p q = absurd (q .least j (p .named j refl))
+least-same (some j) (some k) p q = let d = p .least k (q .named k refl) in let e = q .least j (p .named j refl) in ap some (omega arith)
+
+pub stop-is : (f : List ℕ) (c class : ℕ) (rows : List ℕ) (t : Found) → Passed f c class (block-between f 0 (record-count f)) (In 1024) 65535 rows t → record-of (t .low) ≡ cell-stop (plan-of f) c
+unfolding plan-of block-between
+stop-is f c class rows t p = least-same _ _ (least-found t (p .ran)) (means (arrays-of f) c (plan-of f .body) .stop at-start)
 
 -- with cell c, which can stop at record k
 module _ (v : Verdict) (c k : ℕ) where
@@ -81,13 +119,11 @@ module _ (f : List ℕ) (bodies : ℕ) (w : Plain f bodies) (array first next : 
     home : (d : ℕ) → first ≤ d → d < next → array-of (arrays-of f) d ≡ array
     home d l k = array-from (arrays-of f) array d (omega (arith, s .begins)) (omega (arith, s .begins, ends .size))
 
-    -- with the stop of its own summary
-    pub looked : (u : Verdict) (k : ℕ) (t : Stored) → reading t ≡ summary (arrays-of f) (first-of (arrays-of f) array + (c - first)) (block-between f 0 (record-count f)) →
-        record-of k ≡ reading t .stop at-start → u ≡ with-cell v c (record-of k) → u ≡ over-cells (cell-stop (plan-of f)) (c + 1)
-    unfolding plan-of block-between
-    looked u k t et ek eu =
-        let p : first-of (arrays-of f) array + (c - first) ≡ c = omega (arith, s .begins) in
-        rw (eu, ev, add-one) (ap (with-cell (over-cells (cell-stop (plan-of f)) c) c) (ek ∙ ap (λ (x : Summary). x .stop at-start) (rw p at et)))
+    -- with its own stop
+    pub looked : (u : Verdict) (k : ℕ) → record-of k ≡ cell-stop (plan-of f) (cell-at f array (c - first)) → u ≡ with-cell v c (record-of k) → u ≡ over-cells (cell-stop (plan-of f)) (c + 1)
+    looked u k ek eu =
+        let p : cell-at f array (c - first) ≡ c = omega (arith, s .begins) in
+        rw (eu, ev, add-one) (ap (with-cell (over-cells (cell-stop (plan-of f)) c) c) (rw p at ek))
 
     -- with that of the cell before it
     pub shared : (m : List ℕ) → Marked f (record-count f) m → (c ≡ first → ⊥) → (getD m c 0 ≡ 1 → ⊥) → v ≡ over-cells (cell-stop (plan-of f)) (c + 1)

@@ -1,7 +1,8 @@
--- Cells that no record tells apart: the marks where the cells of a record begin or end, and that a cell without a mark has the summary of the cell before it.
+-- Cells that no record tells apart: the marks where the cells of a record begin or end, and that a cell without a mark stops where the cell before it does.
 use Prim.Native.Nat.{ℕ, zero, suc, _+_, _≤_, _<_}
 use mathlib.Core.Path.{_≡_, refl, sym, _∙_}
-use mathlib.Core.Bool.{Bool, true, false}
+use mathlib.Core.Bool.{Bool, true, false, cond}
+use mathlib.Core.Option.{none, some}
 use mathlib.Core.List.{List}
 use native.Nat.{ℕᴺ-discrete}
 use native.Mathlib.Decide.{decLt}
@@ -9,10 +10,10 @@ use native.Mathlib.Omega.{arith}
 use lib.ListN.{length, length-set, getD, set}
 use lib.Seq.{getD-set-same, getD-set-other}
 use Rattle.model.specs.Sides.{Arrays, first-of, array-of, Cells, within}
-use Rattle.model.specs.Effects.{start}
+use Rattle.model.specs.Effects.{Action, start}
 use Rattle.model.specs.Blocks.{Block, done, act, branch, loop}
-use Rattle.model.proofs.Status.{status-of}
-use Rattle.model.proofs.Summary.{stored-summary, either, followed, repeated, summary}
+use Rattle.model.proofs.Status.{Status, met-in, status-after, status-of}
+use Rattle.model.proofs.Summary.{lower, stored-summary, either, followed, repeated, summary}
 use Rattle.model.proofs.Check.{cell-stop}
 use Rattle.reading.specs.declared.Fields.{Fields}
 use Rattle.reading.specs.Bytes.{first-arm, second-arm, array-count, arrays-of, record-count, fields-at}
@@ -23,9 +24,8 @@ use Rattle.format.proofs.Walking.{opened-facts, steps}
 use Rattle.format.proofs.Trees.{block-none, block-branch, block-loop, block-act, plain-walk, plain-body}
 use Rattle.checker.specs.Inner.Walks.{Clear, Marked}
 use Rattle.checker.proofs.Tests.{leb-before, ltb-before}
-use Rattle.checker.proofs.Touched.{touches, touched-act, untouched-act}
+use Rattle.checker.proofs.Touched.{touches, touched-met-in, touched-status-after, untouched-met-in, untouched-status-after}
 use Rattle.format.proofs.Acts.{here, cells-fit, by-kind}
-use Rattle.checker.proofs.Blocks.{followed-then}
 
 -- every record of a walkable range begins one
 pub record Begins (f : List ℕ) (k limit : ℕ) : Type 0 where
@@ -106,15 +106,27 @@ module _ (arrays : Arrays) (c d : ℕ) where
   Alike (branch k x y b) = Alike x × Alike y × Alike b
   Alike (loop k x b) = Alike x × Alike b
 
+  -- a record leaves them in the same status, and needs the same of them
+  status-alike : (x : Action) → touches arrays c x ≡ touches arrays d x → (u : Status) → status-after arrays c x u ≡ status-after arrays d x u
+  status-alike x e u = go (touches arrays d x) e refl
+    where
+      go : (t : Bool) → touches arrays c x ≡ t → touches arrays d x ≡ t → status-after arrays c x u ≡ status-after arrays d x u
+      go true p q = touched-status-after arrays c x p u ∙ sym (touched-status-after arrays d x q u)
+      go false p q = untouched-status-after arrays c x p u ∙ sym (untouched-status-after arrays d x q u)
+
+  met-alike : (x : Action) → touches arrays c x ≡ touches arrays d x → (u : Status) → met-in arrays c x u ≡ met-in arrays d x u
+  met-alike x e u = go (touches arrays d x) e refl
+    where
+      go : (t : Bool) → touches arrays c x ≡ t → touches arrays d x ≡ t → met-in arrays c x u ≡ met-in arrays d x u
+      go true p q = touched-met-in arrays c x p u ∙ sym (touched-met-in arrays d x q u)
+      go false p q = untouched-met-in arrays c x p u ∙ sym (untouched-met-in arrays d x q u)
+
   alike-summary : (b : Block) → Alike b → summary arrays c b ≡ summary arrays d b
   alike-summary done a = refl
-  alike-summary (act k x b) a =
-      sym (followed-then arrays c (act k x done) b) ∙
-      ((λ i. followed (one (touches arrays d x) (a .0) refl i) (alike-summary b (a .1) i)) ∙ followed-then arrays d (act k x done) b)
-    where
-      one : (t : Bool) → touches arrays c x ≡ t → touches arrays d x ≡ t → summary arrays c (act k x done) ≡ summary arrays d (act k x done)
-      one true p q = sym (touched-act arrays c k x p) ∙ touched-act arrays d k x q
-      one false p q = sym (untouched-act arrays c k x p) ∙ untouched-act arrays d k x q
+  alike-summary (act k x b) a = λ i. stored-summary (record {
+    goes = λ u. alike-summary b (a .1) i .goes (status-alike x (a .0) u i);
+    stop = λ u. lower (cond (met-alike x (a .0) u i) none (some k)) (alike-summary b (a .1) i .stop (status-alike x (a .0) u i));
+  })
   alike-summary (branch k x y b) a =
       λ i. stored-summary (followed (either (alike-summary x (a .0) i) (alike-summary y (a .1) i)) (alike-summary b (a .2) i))
   alike-summary (loop k x b) a = λ i. stored-summary (followed (repeated (alike-summary x (a .0) i)) (alike-summary b (a .1) i))

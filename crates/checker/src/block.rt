@@ -1,33 +1,174 @@
-// The summary of a block of an opened plain plan for one cell.
+// The ways of one cell through a block of an opened plain plan. For each loop and each status with which its body is entered,
+// the exits of the body are computed once and kept in a row, with the class of the cell: rows of earlier classes need not be cleared.
 ghost use mathlib.Core.Path.{_≡_};
-ghost use mathlib.Core.Bool.{cond};
-ghost use Prim.Native.Nat.{_+_, _≤_, _<_};
-ghost use lib.Dec.{eqb};
-ghost use Rattle.model.specs.Sides.{first-of, length-of};
-ghost use Rattle.model.proofs.Summary as model;
-ghost use Rattle.reading.specs.Bytes.{arrays-of, record-count};
-ghost use Rattle.format.specs.Inner.Walks.{Plain, Walkable, block-between};
-ghost use Rattle.checker.specs.Inner.Summaries.{reading};
+ghost use Prim.Native.Nat.{_+_, _/_, _%_, _≤_, _<_};
+ghost use Rattle.model.specs.Blocks.{done, loop};
+ghost use Rattle.reading.specs.Bytes.{record-count};
+ghost use Rattle.format.specs.Inner.Walks.{Walkable, block-between};
+ghost use Rattle.checker.specs.Inner.Sets.{statuses, index, In};
+ghost use Rattle.checker.specs.Inner.Ways.{cell-at, Ready, Body, nest, Passed};
+use crate::acts::Found;
+use crate::acts::acted;
 use crate::fields::touches;
-use crate::summary::Summary;
-use crate::summary::acted;
-use crate::summary::either;
-use crate::summary::followed;
-use crate::summary::nothing;
-use crate::summary::repeated;
+use crate::sets::lowest;
+use crate::sets::only;
+use crate::sets::with;
+use crate::sets::without;
 use model::Array;
 use reading::first_arm;
 use reading::record_at;
 use reading::second_arm;
 
-// A block, and then a branch (kind 6) or a loop with these arms.
-fn with_arms(s: Summary, kind: u8, one: Summary, two: Summary) -> Summary
-    ensures { λ r. ⌜ reading r ≡ model.followed (reading s) (cond (eqb kind 6) (model.either (reading one) (reading two)) (model.repeated (reading one))) ⌝ }
+// A row of this class with these exits.
+fn packed(class: u32, set: u16) -> u32
+    requires { ⌜ class < 65536 ⌝ }
+    ensures { λ r. ⌜ (r / 65536 ≡ class) × (r % 65536 ≡ set) ⌝ }
+{
+    class * 65536 + set as u32
+}
+
+// The exits that a row has.
+fn exits_of(row: u32) -> u16
+    ensures { λ r. ⌜ r ≡ row % 65536 ⌝ }
+{
+    (row % 65536) as u16
+}
+
+// The body of loop r, up to `second`, from status w.
+pub fn row_of(
+    plan: &[u8],
+    bodies: usize,
+    array: Array,
+    offset: usize,
+    rows: &mut [u32],
+    class: u32,
+    low: u16,
+    r: usize,
+    second: usize,
+    w: usize,
+) -> Found
+    requires { ⌜ Ready (now plan) bodies (array .0) offset class (now rows) low × Body (now plan) r second × (w < statuses) ⌝ }
+    ensures { λ t. ⌜ Passed (now (plan .entry)) (cell-at (now (plan .entry)) (array .0) offset) class (block-between (now (plan .entry)) (r + 1) second) (λ u. index u ≡ w) low (now (rows .exit)) t ⌝ }
+{
+    let at = 16 * r + w;
+    let known = rows[at];
+    if known / 65536 == class {
+        return Found {
+            set: exits_of(known),
+            low: low,
+        };
+    }
+    let start = Found {
+        set: only(w),
+        low: low,
+    };
+    let t = block(
+        plan,
+        bodies,
+        array,
+        offset,
+        rows,
+        class,
+        start,
+        r + 1,
+        second,
+    );
+    rows[at] = packed(class, t.set);
+    t
+}
+
+// Any number of turns of loop r: the statuses to look at, until none is new.
+fn turned(
+    plan: &[u8],
+    bodies: usize,
+    array: Array,
+    offset: usize,
+    rows: &mut [u32],
+    class: u32,
+    start: Found,
+    r: usize,
+    second: usize,
+) -> Found
+    requires { ⌜ Ready (now plan) bodies (array .0) offset class (now rows) (start .low) × Body (now plan) r second ⌝ }
+    ensures { λ t. ⌜ Passed (now (plan .entry)) (cell-at (now (plan .entry)) (array .0) offset) class (loop r (block-between (now (plan .entry)) (r + 1) second) done) (In (start .set)) (start .low) (now (rows .exit)) t ⌝ }
+{
+    let mut t = start;
+    let mut looked: u16 = 0;
+    let mut todo = start.set;
+    while todo != 0 {
+        let w = lowest(todo);
+        let row = row_of(
+            plan,
+            bodies,
+            array,
+            offset,
+            rows,
+            class,
+            t.low,
+            r,
+            second,
+            w,
+        );
+        t = Found {
+            set: t.set | row.set,
+            low: row.low,
+        };
+        looked = with(looked, w);
+        todo = without(t.set, looked);
+    }
+    t
+}
+
+// A branch (kind 6) or a loop at record r, whose arms are the records up to `second` and up to `next`.
+fn nested(
+    plan: &[u8],
+    bodies: usize,
+    array: Array,
+    offset: usize,
+    rows: &mut [u32],
+    class: u32,
+    start: Found,
+    kind: u8,
+    r: usize,
+    second: usize,
+    next: usize,
+) -> Found
+    requires { ⌜ Ready (now plan) bodies (array .0) offset class (now rows) (start .low) × Body (now plan) r second × (second ≤ next) × (next ≤ record-count (now plan)) × Walkable (now plan) second next ⌝ }
+    ensures { λ t. ⌜ Passed (now (plan .entry)) (cell-at (now (plan .entry)) (array .0) offset) class (nest kind r (block-between (now (plan .entry)) (r + 1) second) (block-between (now (plan .entry)) second next)) (In (start .set)) (start .low) (now (rows .exit)) t ⌝ }
 {
     if kind == 6 {
-        return followed(s, either(one, two));
+        let one = block(
+            plan,
+            bodies,
+            array,
+            offset,
+            rows,
+            class,
+            start,
+            r + 1,
+            second,
+        );
+        let again = Found {
+            set: start.set,
+            low: one.low,
+        };
+        let two = block(
+            plan,
+            bodies,
+            array,
+            offset,
+            rows,
+            class,
+            again,
+            second,
+            next,
+        );
+        return Found {
+            set: one.set | two.set,
+            low: two.low,
+        };
     }
-    followed(s, repeated(one))
+    turned(plan, bodies, array, offset, rows, class, start, r, second)
 }
 
 // The records from `from` up to `end`, for cell `offset` of an array.
@@ -36,29 +177,42 @@ pub fn block(
     bodies: usize,
     array: Array,
     offset: usize,
+    rows: &mut [u32],
+    class: u32,
+    start: Found,
     from: usize,
     end: usize,
-) -> Summary
-    requires { ⌜ Plain (now plan) bodies × (offset < length-of (arrays-of (now plan)) (array .0)) × (from ≤ end) × (end ≤ record-count (now plan)) × Walkable (now plan) from end ⌝ }
-    ensures { λ r. ⌜ reading r ≡ model.summary (arrays-of (now (plan .entry))) (first-of (arrays-of (now (plan .entry))) (array .0) + offset) (block-between (now (plan .entry)) from end) ⌝ }
+) -> Found
+    requires { ⌜ Ready (now plan) bodies (array .0) offset class (now rows) (start .low) × (from ≤ end) × (end ≤ record-count (now plan)) × Walkable (now plan) from end ⌝ }
+    ensures { λ t. ⌜ Passed (now (plan .entry)) (cell-at (now (plan .entry)) (array .0) offset) class (block-between (now (plan .entry)) from end) (In (start .set)) (start .low) (now (rows .exit)) t ⌝ }
 {
-    let mut s = nothing();
+    let mut t = start;
     let mut r = from;
     while r < end {
         let x = record_at(plan, bodies, r);
         if 6 <= x.kind {
             let second = r + 1 + first_arm(x);
             let next = second + second_arm(x);
-            let one = block(plan, bodies, array, offset, r + 1, second);
-            let two = block(plan, bodies, array, offset, second, next);
-            s = with_arms(s, x.kind, one, two);
+            t = nested(
+                plan,
+                bodies,
+                array,
+                offset,
+                rows,
+                class,
+                t,
+                x.kind,
+                r,
+                second,
+                next,
+            );
             r = next;
         } else {
             if touches(x, array, offset) {
-                s = acted(s, x.kind, x.side, r as u16);
+                t = acted(t, x.kind, x.side, r as u16);
             }
             r += 1;
         }
     }
-    s
+    t
 }

@@ -1,14 +1,17 @@
-// The answer over the cells of an opened plain plan: cells that no record tells apart share one summary.
+// The answer over the cells of an opened plain plan: cells that no record tells apart share one walk.
 ghost use mathlib.Core.Path.{_≡_};
+ghost use Prim.Native.Nat.{_+_, _<_};
+ghost use Rattle.model.specs.Sides.{length-of};
 ghost use Rattle.model.proofs.Check.{with-cell, over-cells, cell-stop, check};
-ghost use Rattle.reading.specs.Bytes.{array-count, record-count};
+ghost use Rattle.reading.specs.Bytes.{array-count, arrays-of, record-count};
 ghost use Rattle.format.specs.Plans.{plan-of};
 ghost use Rattle.format.specs.Inner.Walks.{Plain, Starts};
-ghost use Rattle.checker.specs.Inner.Summaries.{record-of};
+ghost use Rattle.checker.specs.Inner.Sets.{record-of};
+ghost use Rattle.checker.specs.Inner.Ways.{cell-at, Room};
 ghost use Rattle.checker.specs.Inner.Walks.{Span, Marked};
+use crate::acts::Found;
+use crate::acts::NONE;
 use crate::block::block;
-use crate::summary::NONE;
-use crate::summary::start_stop;
 use model::Array;
 use model::Cell;
 use model::Record;
@@ -56,31 +59,97 @@ fn with_cell(v: Verdict, c: Cell, k: u16) -> Verdict
     }
 }
 
+// The lowest record at which cell c, cell `offset` of an array, can stop, NONE if there is none. At the start host copy and host flag are set.
+fn stop_of(
+    plan: &[u8],
+    bodies: usize,
+    records: usize,
+    rows: &mut [u32],
+    array: Array,
+    offset: usize,
+    c: usize,
+) -> u16
+    requires { ⌜ Plain (now plan) bodies × (records ≡ record-count (now plan)) × (offset < length-of (arrays-of (now plan)) (array .0)) × (c < 4096) × Room (now plan) c (now rows) ⌝ }
+    ensures { λ k. ⌜ (record-of k ≡ cell-stop (plan-of (now (plan .entry))) (cell-at (now (plan .entry)) (array .0) offset)) × Room (now (plan .entry)) (c + 1) (now (rows .exit)) ⌝ }
+{
+    let start = Found {
+        set: 1024,
+        low: NONE,
+    };
+    let t = block(
+        plan,
+        bodies,
+        array,
+        offset,
+        rows,
+        c as u32 + 1,
+        start,
+        0,
+        records,
+    );
+    t.low
+}
+
 // The answer for the cells before an array, and then for its own cells.
 fn over_array(
     plan: &[u8],
     bodies: usize,
     records: usize,
+    rows: &mut [u32],
     m: &[u8; PLACES],
     array: Array,
     first: usize,
     next: usize,
     before: Verdict,
 ) -> Verdict
-    requires { ⌜ Plain (now plan) bodies × (records ≡ record-count (now plan)) × Marked (now plan) (record-count (now plan)) (now m) × Span (now plan) (array .0) first next × (before ≡ over-cells (cell-stop (plan-of (now plan))) first) ⌝ }
-    ensures { λ r. ⌜ r ≡ over-cells (cell-stop (plan-of (now (plan .entry)))) next ⌝ }
+    requires { ⌜ Plain (now plan) bodies × (records ≡ record-count (now plan)) × Marked (now plan) (record-count (now plan)) (now m) × Span (now plan) (array .0) first next × (before ≡ over-cells (cell-stop (plan-of (now plan))) first) × Room (now plan) first (now rows) ⌝ }
+    ensures { λ r. ⌜ (r ≡ over-cells (cell-stop (plan-of (now (plan .entry)))) next) × Room (now (plan .entry)) next (now (rows .exit)) ⌝ }
 {
     let mut v = before;
-    for c in first..next {
+    let mut c = first;
+    while c < next {
         if (c == first) | (m[c] == 1) {
-            let s = block(plan, bodies, array, c - first, 0, records);
-            v = with_cell(v, Cell(c as u16), start_stop(s));
+            let k = stop_of(plan, bodies, records, rows, array, c - first, c);
+            v = with_cell(v, Cell(c as u16), k);
         }
+        c += 1;
     }
     v
 }
 
-// The answer for all cells.
+// The answer for all cells, with a table of rows.
+fn answer_with(
+    plan: &[u8],
+    bodies: usize,
+    records: usize,
+    arrays: usize,
+    starts: &[u16; 33],
+    rows: &mut [u32],
+) -> Verdict
+    requires { ⌜ Plain (now plan) bodies × (records ≡ record-count (now plan)) × (arrays ≡ array-count (now plan)) × Starts (now plan) (now starts) × Room (now plan) 0 (now rows) ⌝ }
+    ensures { λ r. ⌜ r ≡ check (plan-of (now (plan .entry))) ⌝ }
+{
+    let m = marks(plan, bodies, records, starts);
+    let mut v = Verdict::Accepted;
+    for a in 0..arrays {
+        let first = starts[a] as usize;
+        let next = starts[a + 1] as usize;
+        v = over_array(
+            plan,
+            bodies,
+            records,
+            rows,
+            &m,
+            Array(a as u16),
+            first,
+            next,
+            v,
+        );
+    }
+    v
+}
+
+// The answer for all cells: a plan of few records needs few rows.
 pub fn answer(
     plan: &[u8],
     bodies: usize,
@@ -91,12 +160,10 @@ pub fn answer(
     requires { ⌜ Plain (now plan) bodies × (records ≡ record-count (now plan)) × (arrays ≡ array-count (now plan)) × Starts (now plan) (now starts) ⌝ }
     ensures { λ r. ⌜ r ≡ check (plan-of (now (plan .entry))) ⌝ }
 {
-    let m = marks(plan, bodies, records, starts);
-    let mut v = Verdict::Accepted;
-    for a in 0..arrays {
-        let first = starts[a] as usize;
-        let next = starts[a + 1] as usize;
-        v = over_array(plan, bodies, records, &m, Array(a as u16), first, next, v);
+    if records <= 64 {
+        let mut few = [0u32; 1024];
+        return answer_with(plan, bodies, records, arrays, starts, &mut few);
     }
-    v
+    let mut rows = [0u32; 16384];
+    answer_with(plan, bodies, records, arrays, starts, &mut rows)
 }

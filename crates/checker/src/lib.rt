@@ -6,10 +6,12 @@ use cells::answer;
 use contents::Opened;
 use model::Verdict;
 
+pub mod acts;
 mod block;
 mod cells;
 mod fields;
-pub mod summary;
+mod loops;
+mod sets;
 
 // The check of a plan file that opening has found to be o.
 pub fn check_opened(plan: &[u8], o: Opened) -> Verdict
