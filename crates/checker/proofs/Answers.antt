@@ -15,13 +15,12 @@ use Rattle.model.specs.declared.Verdict.{Verdict}
 use Rattle.model.specs.declared.Verdict.the-variants.{Accepted, Stopped, Refused}
 use Rattle.model.specs.declared.Record.{Record}
 use Rattle.model.specs.declared.Cell.{Cell}
-use Rattle.model.specs.Sides.{length-of, first-of, array-of}
+use Rattle.model.specs.Sides.{length-of, first-of}
 use Rattle.model.specs.Verdicts.{stop}
-use Rattle.model.proofs.Bits.{equal, equal-same, equal-true}
-use Rattle.model.proofs.Status.{Status, width, bits, status-at}
-use Rattle.model.proofs.Summary.{same, AtMost, Least, means}
-use Rattle.model.proofs.Numbering.{array-from}
-use Rattle.model.proofs.Check.{with-cell, over-cells, cell-stop}
+use Rattle.model.proofs.Bits.{equal}
+use Rattle.model.proofs.Status.{Status, alike, alike-same, alike-true}
+use Rattle.model.proofs.Through.{StopsAt}
+use Rattle.model.proofs.Check.{AtMost, Least, with-cell, Fits, fits-cell, fits-alike}
 use Rattle.reading.specs.Bytes.{array-count, arrays-of, record-count, fields-at}
 use Rattle.format.specs.Plans.{plan-of}
 use Rattle.format.specs.Inner.Walks.{Plain, Starts, block-between}
@@ -30,17 +29,17 @@ use Rattle.format.proofs.Walking.{opened-facts}
 use Rattle.checker.specs.declared.acts.Found.{Found}
 use Rattle.checker.specs.Inner.Sets.{index, bit, In, record-of, at-start}
 use Rattle.checker.specs.Inner.Ways.{Below, Ran, cell-at, Passed}
-use Rattle.checker.specs.Inner.Walks.{Span, Clear, Marked}
+use Rattle.checker.specs.Inner.Walks.{Span, Marked}
 use Rattle.checker.proofs.Statuses.{all-equal}
 use Rattle.checker.proofs.Classes.{stop-alike}
 
 -- the status at the start is the only one in this set
 start-in : (u : Status) → In 1024 u ↔ (u ≡ at-start)
 unfolding bit equal
-start-in u = (λ e. ap status-at (equal-true width (bits u) (bits at-start) (sym (test u) ∙ e)), λ e. rw e (test at-start ∙ equal-same width (bits at-start)))
+start-in u = (λ e. alike-true u at-start (sym (test u) ∙ e), λ e. rw e (test at-start ∙ alike-same at-start))
   where
-    test : (u : Status) → bit 1024 (index u) ≡ same u at-start
-    test = all-equal (λ u. bit 1024 (index u)) (λ u. same u at-start) refl
+    test : (u : Status) → bit 1024 (index u) ≡ alike u at-start
+    test = all-equal (λ u. bit 1024 (index u)) (λ u. alike u at-start) refl
 
 -- what is found from it is the lowest stop
 least-found : {G : Status → Status → Type 0} {S : Status → ℕ → Type 0} (t : Found) → Ran G S (In 1024) 65535 t → Least (record-of (t .low)) (S at-start)
@@ -56,16 +55,9 @@ least-found {S = S} t m = record { named = λ n e. go (eqb (t .low) 65535) refl 
     below : (r : ℕ) → Below (t .low) r → AtMost (record-of (t .low)) r
     below r h = rw (ne-eqb (t .low) 65535 (λ e. omega arith)) (h .0)
 
--- and there is but one
-least-same : {P : ℕ → Type 0} (a b : Option ℕ) → Least a P → Least b P → a ≡ b
-least-same none none p q = refl
-least-same none (some k) p q = absurd (p .least k (q .named k refl))
-least-same (some j) none p q = absurd (q .least j (p .named j refl))
-least-same (some j) (some k) p q = let d = p .least k (q .named k refl) in let e = q .least j (p .named j refl) in ap some (omega arith)
-
-pub stop-is : (f : List ℕ) (c class : ℕ) (rows : List ℕ) (t : Found) → Passed f c class (block-between f 0 (record-count f)) (In 1024) 65535 rows t → record-of (t .low) ≡ cell-stop (plan-of f) c
+pub stop-is : (f : List ℕ) (c class : ℕ) (rows : List ℕ) (t : Found) → Passed f c class (block-between f 0 (record-count f)) (In 1024) 65535 rows t → Least (record-of (t .low)) (λ r. StopsAt (plan-of f) r c)
 unfolding plan-of block-between
-stop-is f c class rows t p = least-same _ _ (least-found t (p .ran)) (means (arrays-of f) c (plan-of f .body) .stop at-start)
+stop-is f c class rows t p = least-found t (p .ran)
 
 -- with cell c, which can stop at record k
 module _ (v : Verdict) (c k : ℕ) where
@@ -85,20 +77,6 @@ module _ (v : Verdict) (c k : ℕ) where
     pub cell-refused : {number place : ℕ} → v ≡ Refused number place → Refused number place ≡ with-cell v c (record-of k)
     cell-refused e = rw (ne-eqb k 65535 n, e)
 
--- a cell that stops where the cell before it does leaves the answer as it is
-over-alike : (g : ℕ → Option ℕ) (d : ℕ) → g (suc d) ≡ g d → over-cells g (suc d) ≡ over-cells g (suc (suc d))
-over-alike g d e = rw e (again (over-cells g d) (g d))
-  where
-    again : (v : Verdict) (o : Option ℕ) → with-cell v d o ≡ with-cell (with-cell v d o) (suc d) o
-    again v none = refl
-    again Accepted (some r) = rw (le-ltb r r (omega arith))
-    again (Stopped r′ c′) (some r) = go (ltb r (r′ .0)) refl
-      where
-        go : (b : Bool) → ltb r (r′ .0) ≡ b → cond b (stop r d) (Stopped r′ c′) ≡ with-cell (cond b (stop r d) (Stopped r′ c′)) (suc d) (some r)
-        go true z = rw (le-ltb r r (omega arith))
-        go false z = rw z
-    again (Refused number place) (some r) = refl
-
 -- the first cell of an array is a small number
 pub start-low : {f starts : List ℕ} {bodies : ℕ} → Plain f bodies → Starts f starts → (a : ℕ) → a ≤ array-count f → getD starts a 0 ≤ 4096
 start-low {f} w s a h = omega (arith, s .first a h, first-rises (arrays-of f) a (array-count f) h, all-cells f, opened-facts f (w .opens) .bounds .cells-below)
@@ -115,25 +93,18 @@ module _ (f : List ℕ) (bodies : ℕ) (w : Plain f bodies) (array first next : 
       let l : first-of (arrays-of f) (array + 1) ≤ first-of (arrays-of f) (array-count f) = first-rises (arrays-of f) (array + 1) (array-count f) (omega (arith, s .one)) in
       record { size = omega (arith, s .begins, s .ends); limit = omega (arith, s .ends, all-cells f, opened-facts f (w .opens) .bounds .cells-below) }
 
-  module _ (c : ℕ) (low : first ≤ c) (high : c < next) (v : Verdict) (ev : v ≡ over-cells (cell-stop (plan-of f)) c) where
-    home : (d : ℕ) → first ≤ d → d < next → array-of (arrays-of f) d ≡ array
-    home d l k = array-from (arrays-of f) array d (omega (arith, s .begins)) (omega (arith, s .begins, ends .size))
-
+  module _ (c : ℕ) (low : first ≤ c) (high : c < next) (v : Verdict) (fits : Fits c (StopsAt (plan-of f)) v) where
     -- with its own stop
-    pub looked : (u : Verdict) (k : ℕ) → record-of k ≡ cell-stop (plan-of f) (cell-at f array (c - first)) → u ≡ with-cell v c (record-of k) → u ≡ over-cells (cell-stop (plan-of f)) (c + 1)
-    looked u k ek eu =
+    pub looked : (u : Verdict) (k : ℕ) → Least (record-of k) (λ r. StopsAt (plan-of f) r (cell-at f array (c - first))) → u ≡ with-cell v c (record-of k) → Fits (c + 1) (StopsAt (plan-of f)) u
+    looked u k l e =
         let p : cell-at f array (c - first) ≡ c = omega (arith, s .begins) in
-        rw (eu, ev, add-one) (ap (with-cell (over-cells (cell-stop (plan-of f)) c) c) (rw p at ek))
+        rw (e, add-one) (fits-cell c (StopsAt (plan-of f)) v (record-of k) fits (rw p at l))
 
     -- with that of the cell before it
-    pub shared : (m : List ℕ) → Marked f (record-count f) m → (c ≡ first → ⊥) → (getD m c 0 ≡ 1 → ⊥) → v ≡ over-cells (cell-stop (plan-of f)) (c + 1)
-    shared m k nf nm = go c ev low high nf (k .clear c (omega (arith, ends .limit)) nm)
-      where
-        go : (c : ℕ) → v ≡ over-cells (cell-stop (plan-of f)) c → first ≤ c → c < next → (c ≡ first → ⊥) → ((k : ℕ) → k < record-count f → Clear f (fields-at f k) c) →
-            v ≡ over-cells (cell-stop (plan-of f)) (c + 1)
-        go zero e l j n cl = absurd (n (omega arith))
-        go (suc d) e l j n cl =
-            elim (decLt d first) [
-              | yes z ↦ absurd (n (omega arith))
-              | no z ↦ rw add-one (e ∙ over-alike (cell-stop (plan-of f)) d (stop-alike f bodies w d (home (suc d) l j ∙ sym (home d (omega arith) (omega arith))) cl))
-            ]
+    pub shared : (m : List ℕ) → Marked f (record-count f) m → (c ≡ first → ⊥) → (getD m c 0 ≡ 1 → ⊥) → Fits (c + 1) (StopsAt (plan-of f)) v
+    shared m k nf nm =
+        let o : ℕ = c - first - 1 in
+        let inside : suc o < length-of (arrays-of f) array = omega (arith, ends .size) in
+        let e : cell-at f array (suc o) ≡ c = omega (arith, s .begins) in
+        rw add-one (fits-alike c (cell-at f array o) (StopsAt (plan-of f)) v (omega (arith, s .begins))
+        (λ r p. stop-alike f bodies w array o inside (k .alike array o inside (rw e nm)) r (rw e p)) fits)

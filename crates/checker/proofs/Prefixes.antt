@@ -1,29 +1,29 @@
 -- A walk over the records of a block: the records read so far make a block of which it is known what is found, and it goes on with the block of those left.
 use Prim.Native.Nat.{ℕ, _+_, _≤_, _<_}
 use mathlib.Core.Path.{_≡_, refl, sym, ap, subst, _∙_}
-use mathlib.Core.Bool.{Bool, true, false, _&&_, _||_}
+use mathlib.Core.Bool.{true, false}
 use mathlib.Core.List.{List}
 use native.Nat.{ℕᴺ-discrete}
 use native.Mathlib.Omega.{arith}
-use lib.Dec.{eqb, leb, ltb}
 use borrow.Author.Tests.{eq-eqb, ne-eqb}
-use Rattle.model.specs.Sides.{Side, length-of}
+use Rattle.model.specs.Sides.{length-of}
 use Rattle.model.specs.Blocks.{Block, done, act, branch, loop, _then_}
 use Rattle.model.proofs.Through.{then-done}
 use Rattle.model.proofs.Demand.Blocks.{then-assoc}
-use Rattle.model.proofs.Numbering.{array-from}
 use Rattle.reading.specs.declared.Fields.{Fields}
 use Rattle.reading.specs.Bytes.{arrays-of, record-count, fields-at, first-arm, second-arm}
 use Rattle.format.specs.Plans.{side-of, action-of}
 use Rattle.format.specs.Inner.Walks.{Walkable, block-between}
-use Rattle.format.proofs.Trees.{block-none, block-branch, block-loop, block-act, no-arms}
+use Rattle.format.proofs.Trees.{block-none, block-branch, block-loop}
 use Rattle.format.proofs.Acts.{Arms}
 use Rattle.checker.specs.declared.acts.Found.{Found}
+use Rattle.checker.specs.Inner.Ahead.{covers}
 use Rattle.checker.specs.Inner.Sets.{In, touched-met, touched-after}
 use Rattle.checker.specs.Inner.Ways.{Ran, cell-at, Body, nest}
-use Rattle.checker.proofs.Touched.{touches}
-use Rattle.checker.proofs.Actions.{act-kind, act-side, act-touches}
-use Rattle.checker.proofs.Ways.{Found-in, ran-none, ran-then, ran-touched, ran-untouched}
+use Rattle.checker.proofs.Actions.{act-kind, act-side, next-act, act-covers}
+use Rattle.checker.proofs.Ways.{Found-in, ran-none, ran-then, ran-touched}
+use Rattle.checker.proofs.Skips.{ran-skip}
+use Rattle.checker.proofs.Passing.{Skipped}
 
 -- t is what is found of the records from `from` up to r, of those up to `end`, for cell c
 pub record Prefix (f : List ℕ) (c from r end : ℕ) (start t : Found) : Type 0 where
@@ -52,30 +52,19 @@ module _ (f : List ℕ) (c from end : ℕ) (start : Found) where
   prefix-all t r h p = subst (λ b. Found-in (arrays-of f) c b (In (start .set)) (start .low) t)
       (sym (then-done (p .before)) ∙ (ap (λ x. p .before then x) (sym (block-none f r end h)) ∙ p .joins)) (p .ran)
 
+  -- the walk passes by what leaves the cell alone
+  pub prefix-skip : (t : Found) (r next : ℕ) → Prefix f c from r end start t → Skipped f c r next end → Prefix f c from next end start t
+  prefix-skip t r next p s = prefix-more t t r next (s .passed) p (sym (s .joins)) (ran-skip (arrays-of f) c (s .passed) (s .untouched) t)
+
 -- record r, whose fields x were read, for cell `offset` of an array
 module _ (f : List ℕ) (array offset from end r : ℕ) (inside : offset < length-of (arrays-of f) array)
     (h : r < end) (g : Walkable f r end) (x : Fields) (e : x ≡ fields-at f r) (start t t′ : Found) (p : Prefix f (cell-at f array offset) from r end start t) where
-  module _ (k : (1 ≤ x .kind) × (x .kind ≤ 5)) (b : Bool) (eb : b ≡ (eqb array (x .array) && (leb 4 (x .kind) || (leb (x .p) offset && ltb offset (x .q))))) where
-    next-act : block-between f r end ≡ act r (action-of x) (block-between f (r + 1) end)
-    next-act =
-        let a = no-arms x (λ z. omega arith) (λ z. omega arith) in
-        let n : r + 1 + first-arm x + second-arm x ≡ r + 1 = omega (arith, a) in
-        rw n at (block-act f r end h g x e (λ z. omega arith) (λ z. omega arith))
-
-    touches-is : touches (arrays-of f) (cell-at f array offset) (action-of x) ≡ b
-    touches-is = act-touches x k (arrays-of f) (cell-at f array offset) array offset (array-from (arrays-of f) array (cell-at f array offset) (omega arith) (omega arith)) refl ∙ sym eb
-
-    -- what it does, by its kind and side
-    abbrev Acts : ℕ → Side → Type 0
-    Acts kind side = Ran (λ u v. touched-after kind side u ≡ v) (λ u n. (r ≡ n) × (touched-met kind side u ≡ false)) (In (t .set)) (t .low) t′
-
-    pub step-touched : b ≡ true → Acts (x .kind) (side-of (x .side)) → Prefix f (cell-at f array offset) from (r + 1) end start t′
-    step-touched u m = prefix-more f (cell-at f array offset) from end start t t′ r (r + 1) (act r (action-of x) done) p next-act
-        (ran-touched (arrays-of f) (cell-at f array offset) r (action-of x) t t′ (touches-is ∙ u) (rw (act-kind x k, act-side x k) m))
-
-    pub step-untouched : b ≡ false → t′ ≡ t → Prefix f (cell-at f array offset) from (r + 1) end start t′
-    step-untouched u m = prefix-more f (cell-at f array offset) from end start t t′ r (r + 1) (act r (action-of x) done) p next-act
-        (rw m (ran-untouched (arrays-of f) (cell-at f array offset) r (action-of x) t (touches-is ∙ u)))
+  -- it covers the cell
+  pub step-act : (1 ≤ x .kind) × (x .kind ≤ 5) → covers x array offset ≡ true →
+      Ran (λ u v. touched-after (x .kind) (side-of (x .side)) u ≡ v) (λ u n. (r ≡ n) × (touched-met (x .kind) (side-of (x .side)) u ≡ false)) (In (t .set)) (t .low) t′ →
+      Prefix f (cell-at f array offset) from (r + 1) end start t′
+  step-act k u m = prefix-more f (cell-at f array offset) from end start t t′ r (r + 1) (act r (action-of x) done) p (next-act x k f r end h g e)
+      (ran-touched (arrays-of f) (cell-at f array offset) r (action-of x) t t′ (act-covers x k f array offset inside ∙ u) (rw (act-kind x k, act-side x k) m))
 
   module _ (low : 6 ≤ x .kind) (high : x .kind ≤ 7) (i j : ℕ) (ei : i ≡ first-arm x) (ej : j ≡ second-arm x) where
     pub step-arms : Found-in (arrays-of f) (cell-at f array offset) (nest (x .kind) r (block-between f (r + 1) (r + 1 + i)) (block-between f (r + 1 + i) (r + 1 + i + j))) (In (t .set)) (t .low) t′ →

@@ -9,7 +9,6 @@ ghost use Rattle.checker.specs.Inner.Sets.{statuses, index, In};
 ghost use Rattle.checker.specs.Inner.Ways.{cell-at, Ready, Body, nest, Passed};
 use crate::acts::Found;
 use crate::acts::acted;
-use crate::fields::touches;
 use crate::sets::lowest;
 use crate::sets::only;
 use crate::sets::with;
@@ -41,13 +40,14 @@ pub fn row_of(
     array: Array,
     offset: usize,
     rows: &mut [u32],
+    ahead: &[usize],
     class: u32,
     low: u16,
     r: usize,
     second: usize,
     w: usize,
 ) -> Found
-    requires { ⌜ Ready (now plan) bodies (array .0) offset class (now rows) low × Body (now plan) r second × (w < statuses) ⌝ }
+    requires { ⌜ Ready (now plan) bodies (array .0) offset (now ahead) class (now rows) low × Body (now plan) r second × (w < statuses) ⌝ }
     ensures { λ t. ⌜ Passed (now (plan .entry)) (cell-at (now (plan .entry)) (array .0) offset) class (block-between (now (plan .entry)) (r + 1) second) (λ u. index u ≡ w) low (now (rows .exit)) t ⌝ }
 {
     let at = 16 * r + w;
@@ -68,6 +68,7 @@ pub fn row_of(
         array,
         offset,
         rows,
+        ahead,
         class,
         start,
         r + 1,
@@ -84,12 +85,13 @@ fn turned(
     array: Array,
     offset: usize,
     rows: &mut [u32],
+    ahead: &[usize],
     class: u32,
     start: Found,
     r: usize,
     second: usize,
 ) -> Found
-    requires { ⌜ Ready (now plan) bodies (array .0) offset class (now rows) (start .low) × Body (now plan) r second ⌝ }
+    requires { ⌜ Ready (now plan) bodies (array .0) offset (now ahead) class (now rows) (start .low) × Body (now plan) r second ⌝ }
     ensures { λ t. ⌜ Passed (now (plan .entry)) (cell-at (now (plan .entry)) (array .0) offset) class (loop r (block-between (now (plan .entry)) (r + 1) second) done) (In (start .set)) (start .low) (now (rows .exit)) t ⌝ }
 {
     let mut t = start;
@@ -103,6 +105,7 @@ fn turned(
             array,
             offset,
             rows,
+            ahead,
             class,
             t.low,
             r,
@@ -126,6 +129,7 @@ fn nested(
     array: Array,
     offset: usize,
     rows: &mut [u32],
+    ahead: &[usize],
     class: u32,
     start: Found,
     kind: u8,
@@ -133,7 +137,7 @@ fn nested(
     second: usize,
     next: usize,
 ) -> Found
-    requires { ⌜ Ready (now plan) bodies (array .0) offset class (now rows) (start .low) × Body (now plan) r second × (second ≤ next) × (next ≤ record-count (now plan)) × Walkable (now plan) second next ⌝ }
+    requires { ⌜ Ready (now plan) bodies (array .0) offset (now ahead) class (now rows) (start .low) × Body (now plan) r second × (second ≤ next) × (next ≤ record-count (now plan)) × Walkable (now plan) second next ⌝ }
     ensures { λ t. ⌜ Passed (now (plan .entry)) (cell-at (now (plan .entry)) (array .0) offset) class (nest kind r (block-between (now (plan .entry)) (r + 1) second) (block-between (now (plan .entry)) second next)) (In (start .set)) (start .low) (now (rows .exit)) t ⌝ }
 {
     if kind == 6 {
@@ -143,6 +147,7 @@ fn nested(
             array,
             offset,
             rows,
+            ahead,
             class,
             start,
             r + 1,
@@ -158,6 +163,7 @@ fn nested(
             array,
             offset,
             rows,
+            ahead,
             class,
             again,
             second,
@@ -168,26 +174,39 @@ fn nested(
             low: two.low,
         };
     }
-    turned(plan, bodies, array, offset, rows, class, start, r, second)
+    turned(
+        plan,
+        bodies,
+        array,
+        offset,
+        rows,
+        ahead,
+        class,
+        start,
+        r,
+        second,
+    )
 }
 
-// The records from `from` up to `end`, for cell `offset` of an array.
+// The records from `from` up to `end`, for cell `offset` of an array: those that concern it, one after the other.
 pub fn block(
     plan: &[u8],
     bodies: usize,
     array: Array,
     offset: usize,
     rows: &mut [u32],
+    ahead: &[usize],
     class: u32,
     start: Found,
     from: usize,
     end: usize,
 ) -> Found
-    requires { ⌜ Ready (now plan) bodies (array .0) offset class (now rows) (start .low) × (from ≤ end) × (end ≤ record-count (now plan)) × Walkable (now plan) from end ⌝ }
+    requires { ⌜ Ready (now plan) bodies (array .0) offset (now ahead) class (now rows) (start .low) × (from ≤ end) × (end ≤ record-count (now plan)) × Walkable (now plan) from end ⌝ }
     ensures { λ t. ⌜ Passed (now (plan .entry)) (cell-at (now (plan .entry)) (array .0) offset) class (block-between (now (plan .entry)) from end) (In (start .set)) (start .low) (now (rows .exit)) t ⌝ }
 {
     let mut t = start;
-    let mut r = from;
+    let mut at = from;
+    let mut r = ahead[from];
     while r < end {
         let x = record_at(plan, bodies, r);
         if 6 <= x.kind {
@@ -199,6 +218,7 @@ pub fn block(
                 array,
                 offset,
                 rows,
+                ahead,
                 class,
                 t,
                 x.kind,
@@ -206,12 +226,12 @@ pub fn block(
                 second,
                 next,
             );
-            r = next;
+            at = next;
+            r = ahead[next];
         } else {
-            if touches(x, array, offset) {
-                t = acted(t, x.kind, x.side, r as u16);
-            }
-            r += 1;
+            t = acted(t, x.kind, x.side, r as u16);
+            at = r + 1;
+            r = ahead[at];
         }
     }
     t

@@ -2,15 +2,20 @@
 ghost use mathlib.Core.Path.{_≡_};
 ghost use Prim.Native.Nat.{_+_, _<_};
 ghost use Rattle.model.specs.Sides.{length-of};
-ghost use Rattle.model.proofs.Check.{with-cell, over-cells, cell-stop, check};
+ghost use Rattle.model.specs.Check.{Answers};
+ghost use Rattle.model.proofs.Through.{StopsAt};
+ghost use Rattle.model.proofs.Check.{Least, with-cell, Fits};
 ghost use Rattle.reading.specs.Bytes.{array-count, arrays-of, record-count};
 ghost use Rattle.format.specs.Plans.{plan-of};
 ghost use Rattle.format.specs.Inner.Walks.{Plain, Starts};
 ghost use Rattle.checker.specs.Inner.Sets.{record-of};
 ghost use Rattle.checker.specs.Inner.Ways.{cell-at, Room};
+ghost use Rattle.checker.specs.Inner.Ahead.{Spare};
 ghost use Rattle.checker.specs.Inner.Walks.{Span, Marked};
 use crate::acts::Found;
 use crate::acts::NONE;
+use crate::ahead::NOWHERE;
+use crate::ahead::look_ahead;
 use crate::block::block;
 use model::Array;
 use model::Cell;
@@ -65,13 +70,15 @@ fn stop_of(
     bodies: usize,
     records: usize,
     rows: &mut [u32],
+    ahead: &mut [usize],
     array: Array,
     offset: usize,
     c: usize,
 ) -> u16
-    requires { ⌜ Plain (now plan) bodies × (records ≡ record-count (now plan)) × (offset < length-of (arrays-of (now plan)) (array .0)) × (c < 4096) × Room (now plan) c (now rows) ⌝ }
-    ensures { λ k. ⌜ (record-of k ≡ cell-stop (plan-of (now (plan .entry))) (cell-at (now (plan .entry)) (array .0) offset)) × Room (now (plan .entry)) (c + 1) (now (rows .exit)) ⌝ }
+    requires { ⌜ Plain (now plan) bodies × (records ≡ record-count (now plan)) × (offset < length-of (arrays-of (now plan)) (array .0)) × (c < 4096) × Room (now plan) c (now rows) × Spare (now plan) (now ahead) ⌝ }
+    ensures { λ k. ⌜ Least (record-of k) (λ r. StopsAt (plan-of (now (plan .entry))) r (cell-at (now (plan .entry)) (array .0) offset)) × Room (now (plan .entry)) (c + 1) (now (rows .exit)) × Spare (now (plan .entry)) (now (ahead .exit)) ⌝ }
 {
+    look_ahead(plan, bodies, records, array, offset, ahead);
     let start = Found {
         set: 1024,
         low: NONE,
@@ -82,6 +89,7 @@ fn stop_of(
         array,
         offset,
         rows,
+        ahead,
         c as u32 + 1,
         start,
         0,
@@ -96,20 +104,21 @@ fn over_array(
     bodies: usize,
     records: usize,
     rows: &mut [u32],
+    ahead: &mut [usize],
     m: &[u8; PLACES],
     array: Array,
     first: usize,
     next: usize,
     before: Verdict,
 ) -> Verdict
-    requires { ⌜ Plain (now plan) bodies × (records ≡ record-count (now plan)) × Marked (now plan) (record-count (now plan)) (now m) × Span (now plan) (array .0) first next × (before ≡ over-cells (cell-stop (plan-of (now plan))) first) × Room (now plan) first (now rows) ⌝ }
-    ensures { λ r. ⌜ (r ≡ over-cells (cell-stop (plan-of (now (plan .entry)))) next) × Room (now (plan .entry)) next (now (rows .exit)) ⌝ }
+    requires { ⌜ Plain (now plan) bodies × (records ≡ record-count (now plan)) × Marked (now plan) (record-count (now plan)) (now m) × Span (now plan) (array .0) first next × Fits first (StopsAt (plan-of (now plan))) before × Room (now plan) first (now rows) × Spare (now plan) (now ahead) ⌝ }
+    ensures { λ r. ⌜ Fits next (StopsAt (plan-of (now (plan .entry)))) r × Room (now (plan .entry)) next (now (rows .exit)) × Spare (now (plan .entry)) (now (ahead .exit)) ⌝ }
 {
     let mut v = before;
     let mut c = first;
     while c < next {
         if (c == first) | (m[c] == 1) {
-            let k = stop_of(plan, bodies, records, rows, array, c - first, c);
+            let k = stop_of(plan, bodies, records, rows, ahead, array, c - first, c);
             v = with_cell(v, Cell(c as u16), k);
         }
         c += 1;
@@ -125,9 +134,10 @@ fn answer_with(
     arrays: usize,
     starts: &[u16; 33],
     rows: &mut [u32],
+    ahead: &mut [usize],
 ) -> Verdict
-    requires { ⌜ Plain (now plan) bodies × (records ≡ record-count (now plan)) × (arrays ≡ array-count (now plan)) × Starts (now plan) (now starts) × Room (now plan) 0 (now rows) ⌝ }
-    ensures { λ r. ⌜ r ≡ check (plan-of (now (plan .entry))) ⌝ }
+    requires { ⌜ Plain (now plan) bodies × (records ≡ record-count (now plan)) × (arrays ≡ array-count (now plan)) × Starts (now plan) (now starts) × Room (now plan) 0 (now rows) × Spare (now plan) (now ahead) ⌝ }
+    ensures { λ r. ⌜ Answers (plan-of (now (plan .entry))) r ⌝ }
 {
     let m = marks(plan, bodies, records, starts);
     let mut v = Verdict::Accepted;
@@ -139,6 +149,7 @@ fn answer_with(
             bodies,
             records,
             rows,
+            ahead,
             &m,
             Array(a as u16),
             first,
@@ -158,12 +169,14 @@ pub fn answer(
     starts: &[u16; 33],
 ) -> Verdict
     requires { ⌜ Plain (now plan) bodies × (records ≡ record-count (now plan)) × (arrays ≡ array-count (now plan)) × Starts (now plan) (now starts) ⌝ }
-    ensures { λ r. ⌜ r ≡ check (plan-of (now (plan .entry))) ⌝ }
+    ensures { λ r. ⌜ Answers (plan-of (now (plan .entry))) r ⌝ }
 {
     if records <= 64 {
         let mut few = [0u32; 1024];
-        return answer_with(plan, bodies, records, arrays, starts, &mut few);
+        let mut near = [NOWHERE; 65];
+        return answer_with(plan, bodies, records, arrays, starts, &mut few, &mut near);
     }
     let mut rows = [0u32; 16384];
-    answer_with(plan, bodies, records, arrays, starts, &mut rows)
+    let mut ahead = [NOWHERE; 1025];
+    answer_with(plan, bodies, records, arrays, starts, &mut rows, &mut ahead)
 }

@@ -7,6 +7,7 @@ use contents::Opened;
 use model::Verdict;
 
 pub mod acts;
+mod ahead;
 mod block;
 mod cells;
 mod fields;

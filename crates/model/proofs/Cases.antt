@@ -1,18 +1,24 @@
--- The twelve cases: the check, computed over their table, gives each row's answer.
+-- The twelve cases: the trial, computed over their table, settles each row and gives its answer.
 use mathlib.Core.Path.{_≡_, refl}
+use mathlib.Core.Bool.{Bool, true, _&&_}
 use mathlib.Core.List.{List, [], _∷_, map}
 use Rattle.model.specs.Sides.{first-of, array-of, within}
 use Rattle.model.specs.Cases.{Case, plan-of, twelve, AllAnswer}
-use Rattle.model.proofs.Bits.{stored-bits, each, equal}
-use Rattle.model.proofs.Summary.{lower}
-use Rattle.model.proofs.Check.{check, exact}
+use Rattle.model.proofs.Booleans.{and-out}
+use Rattle.model.proofs.Bits.{equal}
+use Rattle.model.proofs.Trial.{has, has-all, unmet, lower, tried, settles, tried-answers}
 
-all-answer : (rows : List Case) → map (λ row. check (plan-of row)) rows ≡ map (λ row. row .answer) rows → AllAnswer rows
-all-answer [] e = tt
-all-answer (row ∷ rows) e =
-    let q : check (plan-of row) ≡ row .answer = cc in
-    (rw q at (exact (plan-of row)), all-answer rows (cc))
+abbrev all-settle : List Case → Bool
+all-settle [] = true
+all-settle (row ∷ rows) = settles (plan-of row) && all-settle rows
+
+all-answer : (rows : List Case) → all-settle rows ≡ true → map (λ row. tried (plan-of row)) rows ≡ map (λ row. row .answer) rows → AllAnswer rows
+all-answer [] s e = tt
+all-answer (row ∷ rows) s e =
+    let p = and-out (settles (plan-of row)) (all-settle rows) s in
+    let q : tried (plan-of row) ≡ row .answer = cc in
+    (rw q at (tried-answers (plan-of row) (p .0)), all-answer rows (p .1) (cc))
 
 pub twelve-answer : AllAnswer twelve
-unfolding check stored-bits each equal lower within array-of first-of
-twelve-answer = all-answer twelve refl
+unfolding has has-all unmet lower equal within array-of first-of
+twelve-answer = all-answer twelve refl refl

@@ -10,9 +10,9 @@ pub mod Numbering
 pub mod Bits
 pub mod Status
 pub mod Through
-pub mod Summary
 pub mod Stuck
 pub mod Check
+pub mod Trial
 pub mod Cases
 -- demand 3
 pub mod Written

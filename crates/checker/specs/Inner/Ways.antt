@@ -13,6 +13,7 @@ use Rattle.model.proofs.Through.{Goes, Stops}
 use Rattle.reading.specs.Bytes.{arrays-of, record-count, fields-at, first-arm}
 use Rattle.format.specs.Inner.Walks.{Plain, Walkable, block-between}
 use Rattle.checker.specs.declared.acts.Found.{Found}
+use Rattle.checker.specs.Inner.Ahead.{Ahead}
 use Rattle.checker.specs.Inner.Sets.{statuses, index, In}
 
 -- `low` is a record, at most r
@@ -53,9 +54,10 @@ pub record Exact (f : List ℕ) (c class : ℕ) (rows : List ℕ) (low : ℕ) : 
   pub room : Room f class rows
 
 -- a walk of a cell can begin
-pub record Ready (f : List ℕ) (bodies array offset class : ℕ) (rows : List ℕ) (low : ℕ) : Type 0 where
+pub record Ready (f : List ℕ) (bodies array offset : ℕ) (ahead : List ℕ) (class : ℕ) (rows : List ℕ) (low : ℕ) : Type 0 where
   pub plain : Plain f bodies
   pub inside : offset < length-of (arrays-of f) array
+  pub leads : Ahead f array offset 0 ahead
   pub small : class < 65536
   pub exact : Exact f (cell-at f array offset) class rows low
 

@@ -1,9 +1,8 @@
 use borrow.Author.Needs.{needs}
 use mathlib.Core.Path.{_≡_, refl, _∙_}
-use mathlib.Core.Logic.{⊎-elim}
 use native.Mathlib.Omega.{arith}
 use Prim.Native.Nat.{ℕ, _+_, _-_, _*_, _≤_, _<_}
-use lib.ListN.{length, length-set}
+use lib.ListN.{length, length-set, getD}
 use Rattle.reading.specs.Bytes.{arrays-of}
 use Rattle.format.specs.Inner.Walks.{Walkable, block-between}
 use Rattle.format.proofs.Walking.{opened-facts}
@@ -11,7 +10,8 @@ use Rattle.format.proofs.Acts.{record-inside, Here, here, Arms, arms, after-act
 use Rattle.checker.specs.Inner.Ways.{cell-at, Exact}
 use Rattle.checker.proofs.Turns.{Turning, turning-none, turning-all, turning-new, turning-more}
 use Rattle.checker.proofs.Keeping.{exact-lower, row-known, row-kept, passed-branch, passed-loop}
-use Rattle.checker.proofs.Prefixes.{Prefix, body-here, prefix-none, prefix-all, step-touched, step-untouched, step-arms}
+use Rattle.checker.proofs.Passing.{Skipped, skip-on, skip-rest, skip-to}
+use Rattle.checker.proofs.Prefixes.{Prefix, body-here, prefix-none, prefix-all, prefix-skip, step-act, step-arms}
 use borrow.Fn.Kinds.{In}
 use borrow.Fn.PlainCycle.{Measures, is, falls, and}
 use Rattle.checker.proofs.block.block.Reads as block
@@ -29,7 +29,6 @@ use Rattle.checker.proofs.block.+block+nested+row_of+turned.Lts-turned 
 use Rattle.checker.proofs.acts.acted.Reads as acted-reads
 use Rattle.checker.proofs.block.exits_of.Reads as exits-of-reads
 use Rattle.checker.proofs.block.packed.Reads as packed-reads
-use Rattle.checker.proofs.fields.touches.Reads as touches-reads
 use Rattle.checker.proofs.sets.lowest.Reads as lowest-reads
 use Rattle.checker.proofs.sets.only.Reads as only-reads
 use Rattle.checker.proofs.sets.with.Reads as with-reads
@@ -40,57 +39,58 @@ use Rattle.reading.proofs.second_arm.Reads as second-arm-reads
 use Rattle.checker.proofs.block.+block+nested+row_of+turned.{statement}
 use Rattle.checker.proofs.block.+block+nested+row_of+turned.Tie.{close}
 
-abbrev μ-block : Measures 2 block-kinds.ps ℕ
-μ-block κs a = 4 * (a .1 .1 .1 .1 .1 .1 .1 .1 .0 - a .1 .1 .1 .1 .1 .1 .1 .0)
+abbrev μ-block : Measures 3 block-kinds.ps ℕ
+μ-block κs a = 4 * (a .1 .1 .1 .1 .1 .1 .1 .1 .1 .0 - a .1 .1 .1 .1 .1 .1 .1 .1 .0)
 
-abbrev μ-nested : Measures 2 nested-kinds.ps ℕ
-μ-nested κs a = 4 * (a .1 .1 .1 .1 .1 .1 .1 .1 .1 .1 .0 - (a .1 .1 .1 .1 .1 .1 .1 .1 .0 + 1)) + 3
+abbrev μ-nested : Measures 3 nested-kinds.ps ℕ
+μ-nested κs a = 4 * (a .1 .1 .1 .1 .1 .1 .1 .1 .1 .1 .1 .0 - (a .1 .1 .1 .1 .1 .1 .1 .1 .1 .0 + 1)) + 3
 
-abbrev μ-row-of : Measures 2 row-of-kinds.ps ℕ
-μ-row-of κs a = 4 * (a .1 .1 .1 .1 .1 .1 .1 .1 .0 - (a .1 .1 .1 .1 .1 .1 .1 .0 + 1)) + 1
+abbrev μ-row-of : Measures 3 row-of-kinds.ps ℕ
+μ-row-of κs a = 4 * (a .1 .1 .1 .1 .1 .1 .1 .1 .1 .0 - (a .1 .1 .1 .1 .1 .1 .1 .1 .0 + 1)) + 1
 
-abbrev μ-turned : Measures 2 turned-kinds.ps ℕ
-μ-turned κs a = 4 * (a .1 .1 .1 .1 .1 .1 .1 .1 .0 - (a .1 .1 .1 .1 .1 .1 .1 .0 + 1)) + 2
+abbrev μ-turned : Measures 3 turned-kinds.ps ℕ
+μ-turned κs a = 4 * (a .1 .1 .1 .1 .1 .1 .1 .1 .1 .0 - (a .1 .1 .1 .1 .1 .1 .1 .1 .0 + 1)) + 2
 
-abbrev block-at : ℕ → In 2 block-kinds.ps
-block-at t = and 2 block-kinds.ps (is 2 block-kinds.ps μ-block t) block.Pre
+abbrev block-at : ℕ → In 3 block-kinds.ps
+block-at t = and 3 block-kinds.ps (is 3 block-kinds.ps μ-block t) block.Pre
 
-abbrev block-below : ℕ → In 2 block-kinds.ps
-block-below t = and 2 block-kinds.ps (falls 2 block-kinds.ps _<_ μ-block t) block.Pre
+abbrev block-below : ℕ → In 3 block-kinds.ps
+block-below t = and 3 block-kinds.ps (falls 3 block-kinds.ps _<_ μ-block t) block.Pre
 
-abbrev nested-at : ℕ → In 2 nested-kinds.ps
-nested-at t = and 2 nested-kinds.ps (is 2 nested-kinds.ps μ-nested t) nested.Pre
+abbrev nested-at : ℕ → In 3 nested-kinds.ps
+nested-at t = and 3 nested-kinds.ps (is 3 nested-kinds.ps μ-nested t) nested.Pre
 
-abbrev nested-below : ℕ → In 2 nested-kinds.ps
-nested-below t = and 2 nested-kinds.ps (falls 2 nested-kinds.ps _<_ μ-nested t) nested.Pre
+abbrev nested-below : ℕ → In 3 nested-kinds.ps
+nested-below t = and 3 nested-kinds.ps (falls 3 nested-kinds.ps _<_ μ-nested t) nested.Pre
 
-abbrev row-of-at : ℕ → In 2 row-of-kinds.ps
-row-of-at t = and 2 row-of-kinds.ps (is 2 row-of-kinds.ps μ-row-of t) row-of.Pre
+abbrev row-of-at : ℕ → In 3 row-of-kinds.ps
+row-of-at t = and 3 row-of-kinds.ps (is 3 row-of-kinds.ps μ-row-of t) row-of.Pre
 
-abbrev row-of-below : ℕ → In 2 row-of-kinds.ps
-row-of-below t = and 2 row-of-kinds.ps (falls 2 row-of-kinds.ps _<_ μ-row-of t) row-of.Pre
+abbrev row-of-below : ℕ → In 3 row-of-kinds.ps
+row-of-below t = and 3 row-of-kinds.ps (falls 3 row-of-kinds.ps _<_ μ-row-of t) row-of.Pre
 
-abbrev turned-at : ℕ → In 2 turned-kinds.ps
-turned-at t = and 2 turned-kinds.ps (is 2 turned-kinds.ps μ-turned t) turned.Pre
+abbrev turned-at : ℕ → In 3 turned-kinds.ps
+turned-at t = and 3 turned-kinds.ps (is 3 turned-kinds.ps μ-turned t) turned.Pre
 
-abbrev turned-below : ℕ → In 2 turned-kinds.ps
-turned-below t = and 2 turned-kinds.ps (falls 2 turned-kinds.ps _<_ μ-turned t) turned.Pre
+abbrev turned-below : ℕ → In 3 turned-kinds.ps
+turned-below t = and 3 turned-kinds.ps (falls 3 turned-kinds.ps _<_ μ-turned t) turned.Pre
 
 abbrev block-Inv-loop : block-lts.InvT-loop
-block-Inv-loop plan bodies array offset rows₀ class from end t₀ r₀ rows t r =
-    (from ≤ r)
-    × (r ≤ end)
-    × Walkable plan r end
-    × Prefix plan (cell-at plan (array .0) offset) from r end t₀ t
+block-Inv-loop plan bodies array offset rows₀ ahead class from end t₀ at₀ r₀ rows t at r =
+    (from ≤ at)
+    × (at ≤ end)
+    × Walkable plan at end
+    × Prefix plan (cell-at plan (array .0) offset) from at end t₀ t
     × Exact plan (cell-at plan (array .0) offset) class rows (t .low)
     × (length rows ≡ length rows₀)
+    × (r ≡ getD ahead at 0)
 
 abbrev block-μ-loop : block-lts.MeasureT-loop
-block-μ-loop plan bodies array offset rows₀ class from end t₀ r₀ rows t r = end - r
+block-μ-loop plan bodies array offset rows₀ ahead class from end t₀ at₀ r₀ rows t at r = end - at
 
 -- what each callee asks and gives, those of the cycle below t
 abbrev block-calls : ℕ → block-lts.Claims
-block-calls t = (record-at-reads.Asked, record-at-reads.Learnt, first-arm-reads.Asked, first-arm-reads.Learnt, second-arm-reads.Asked, second-arm-reads.Learnt, nested-below t, nested.Post, touches-reads.Asked, touches-reads.Learnt, acted-reads.Asked, acted-reads.Learnt)
+block-calls t = (record-at-reads.Asked, record-at-reads.Learnt, first-arm-reads.Asked, first-arm-reads.Learnt, second-arm-reads.Asked, second-arm-reads.Learnt, nested-below t, nested.Post, acted-reads.Asked, acted-reads.Learnt)
 
 abbrev nested-calls : ℕ → nested-lts.Claims
 nested-calls t = (block-below t, block.Post, turned-below t, turned.Post)
@@ -101,112 +101,141 @@ row-of-calls t = (exits-of-reads.Asked, exits-of-reads.Learnt, only-reads.Asked,
 abbrev turned-calls : ℕ → turned-lts.Claims
 turned-calls t = (lowest-reads.Asked, lowest-reads.Learnt, row-of-below t, row-of.Post, with-reads.Asked, with-reads.Learnt, without-reads.Asked, without-reads.Learnt)
 
--- what is known of record r once its fields are read
-known : (t : ℕ) (c : block-lts.After-struct-known (block-calls t) (block-at t) block.Post block-Inv-loop block-μ-loop) → Here (c .before .before .before .before .before .before .args .plan .now) (c .before .before .before .loop .r) (c .before .before .before .before .before .before .args .end) (c .before .record-at .result)
-known t c =
+-- the walk has passed by what leaves the cell alone, up to record r
+passing : (t : ℕ) (c : block-lts.In-loop (block-calls t) (block-at t) block.Post block-Inv-loop block-μ-loop) → Skipped (c .before .before .before .before .before .before .args .plan .now) (cell-at (c .before .before .before .before .before .before .args .plan .now) (c .before .before .before .before .before .before .args .array .0) (c .before .before .before .before .before .before .args .offset)) (c .before .loop .at) (c .before .loop .r) (c .before .before .before .before .before .before .args .end)
+passing t c =
     let p = c .before .before .before .before .before .before .pre .1 in
-    let l = c .before .before .before .loop in
-    here (c .before .before .before .before .before .before .args .plan .now) (c .before .before .before .before .before .before .args .bodies) (l .r) (c .before .before .before .before .before .before .args .end) (p .0 .plain) (c .before .before .loop-test .taken) (p .2) (l .inv .2) _ (c .before .record-at .ensures)
+    let i = c .before .loop .inv in
+    skip-on (c .before .before .before .before .before .before .args .plan .now) _ (p .0 .plain) _ _ (p .0 .inside) _ (p .0 .leads) _ _ _ (i .2) (p .2) (i .1) (i .6) (c .loop-test .taken)
+
+-- what is known of record r once its fields are read
+known : (t : ℕ) (c : block-lts.After-struct-known (block-calls t) (block-at t) block.Post block-Inv-loop block-μ-loop) → Here (c .before .before .before .before .before .before .before .before .args .plan .now) (c .before .before .before .loop .r) (c .before .before .before .before .before .before .before .before .args .end) (c .before .record-at .result)
+known t c =
+    let p = c .before .before .before .before .before .before .before .before .pre .1 in
+    here (c .before .before .before .before .before .before .before .before .args .plan .now) (c .before .before .before .before .before .before .before .before .args .bodies) (c .before .before .before .loop .r) (c .before .before .before .before .before .before .before .before .args .end) (p .0 .plain) (c .before .before .loop-test .taken) (p .2) (passing t (c .before .before) .walk) _ (c .before .record-at .ensures)
 
 -- and of its arms
-known-arms : (t : ℕ) (c : block-lts.After-second-arm (block-calls t) (block-at t) block.Post block-Inv-loop block-μ-loop) → Arms (c .before .before .before .before .before .before .before .before .before .args .plan .now) (c .before .before .before .before .before .before .loop .r) (c .before .before .before .before .before .before .before .before .before .args .end) (c .before .first-arm .result) (c .second-arm .result)
+known-arms : (t : ℕ) (c : block-lts.After-second-arm (block-calls t) (block-at t) block.Post block-Inv-loop block-μ-loop) → Arms (c .before .before .before .before .before .before .before .before .before .before .before .args .plan .now) (c .before .before .before .before .before .before .loop .r) (c .before .before .before .before .before .before .before .before .before .before .before .args .end) (c .before .first-arm .result) (c .second-arm .result)
 known-arms t c = arms (known t (c .before .before .before) .steps) _ _ (c .before .first-arm .ensures .0) (c .second-arm .ensures .0)
 
 -- there are few records, and the table has a row for each
-few : (t : ℕ) (c : row-of-lts.After-slice-known (row-of-calls t) (row-of-at t) row-of.Post) → (c .before .before .args .r < 1024) × (16 * c .before .before .args .r + 16 ≤ length (c .before .before .args .rows .now))
+few : (t : ℕ) (c : row-of-lts.After-shared-slice-known2 (row-of-calls t) (row-of-at t) row-of.Post) → (c .before .before .before .args .r < 1024) × (16 * c .before .before .before .args .r + 16 ≤ length (c .before .before .before .args .rows .now))
 few t c =
-    let p = c .before .before .pre .1 in
+    let p = c .before .before .before .pre .1 in
     (omega (arith, opened-facts _ (p .0 .plain .opens) .bounds .records, p .1 .ends, p .1 .below), omega (arith, p .0 .exact .room .long, p .1 .ends, p .1 .below))
 
+block-mul-r : (t : ℕ) → block-lts.Need-mul-r (block-calls t) (block-at t) block.Post block-Inv-loop block-μ-loop
+block-mul-r t c = let p = c .before .before .before .pre .1 in let n = opened-facts _ (p .0 .plain .opens) .bounds .records in let s = p .0 .leads .spare .long in omega (arith, n)
+
+block-shared-slice-read-r : (t : ℕ) → block-lts.Need-shared-slice-read-r (block-calls t) (block-at t) block.Post block-Inv-loop block-μ-loop
+block-shared-slice-read-r t c = let p = c .before .before .before .before .pre .1 in let n = opened-facts _ (p .0 .plain .opens) .bounds .records in let s = p .0 .leads .spare .long in omega (arith, s)
+
 block-loop-holds : (t : ℕ) → block-lts.Need-loop-holds (block-calls t) (block-at t) block.Post block-Inv-loop block-μ-loop
-block-loop-holds t c = let p = c .before .before .pre .1 in (search needs, search needs, p .3, prefix-none _ _ _ _ _, p .0 .exact, refl)
+block-loop-holds t c = let p = c .before .before .before .before .pre .1 in (search needs, search needs, p .3, prefix-none _ _ _ _ _, p .0 .exact, refl, refl)
 
 block-record-at-requires : (t : ℕ) → block-lts.Need-record-at-requires (block-calls t) (block-at t) block.Post block-Inv-loop block-μ-loop
-block-record-at-requires t c κs = let p = c .before .before .before .before .pre .1 in let n = record-inside _ _ (p .0 .plain) (c .before .loop .r) (omega arith) in (p .0 .plain .place, n)
+block-record-at-requires t c κs = let p = c .before .before .before .before .before .before .pre .1 in (p .0 .plain .place, record-inside _ _ (p .0 .plain) (c .before .loop .r) (omega (arith, p .2)))
 
 block-add-second : (t : ℕ) → block-lts.Need-add-second (block-calls t) (block-at t) block.Post block-Inv-loop block-μ-loop
-block-add-second t c = search needs
+block-add-second t c = let n = known t (c .before) .few in search needs
 
 block-first-arm-requires : (t : ℕ) → block-lts.Need-first-arm-requires (block-calls t) (block-at t) block.Post block-Inv-loop block-μ-loop
 block-first-arm-requires t c κs = search needs
 
 block-add-second-2 : (t : ℕ) → block-lts.Need-add-second-2 (block-calls t) (block-at t) block.Post block-Inv-loop block-μ-loop
-block-add-second-2 t c = let n = known t (c .before .before) in search needs
+block-add-second-2 t c = let n = known t (c .before .before) .few in search needs
 
 block-second-arm-requires : (t : ℕ) → block-lts.Need-second-arm-requires (block-calls t) (block-at t) block.Post block-Inv-loop block-μ-loop
 block-second-arm-requires t c κs = search needs
 
 block-add-next : (t : ℕ) → block-lts.Need-add-next (block-calls t) (block-at t) block.Post block-Inv-loop block-μ-loop
-block-add-next t c = let n = known t (c .before .before .before) in search needs
+block-add-next t c = let n = known t (c .before .before .before) .few in search needs
 
 block-nested-requires : (t : ℕ) → block-lts.Need-nested-requires (block-calls t) (block-at t) block.Post block-Inv-loop block-μ-loop
 block-nested-requires t c κs =
     let n = known-arms t (c .before) in
-    let w = c .before .before .before .before .before .before .before .before .before .before .pre in
+    let w = c .before .before .before .before .before .before .before .before .before .before .before .before .pre in
     let l = c .before .before .before .before .before .before .before .loop in
-    (omega (arith, w .0, l .inv .0, n .inside), (record { plain = w .1 .0 .plain; inside = w .1 .0 .inside; small = w .1 .0 .small; exact = l .inv .4 }, body-here _ _ _ _ _ _ (c .before .before .before .before .before .record-at .ensures) (c .before .before .first-arm .ensures .0) (w .1 .2) n, omega arith, omega (arith, w .1 .2), n .two))
+    let k = passing t (c .before .before .before .before .before .before) in
+    (omega (arith, w .0, l .inv .0, k .later, n .inside), (record { plain = w .1 .0 .plain; inside = w .1 .0 .inside; leads = w .1 .0 .leads; small = w .1 .0 .small; exact = l .inv .4 }, body-here _ _ _ _ _ _ (c .before .before .before .before .before .record-at .ensures) (c .before .before .first-arm .ensures .0) (w .1 .2) n, omega arith, omega (arith, n .inside, w .1 .2), n .two))
+
+block-mul-r-2 : (t : ℕ) → block-lts.Need-mul-r-2 (block-calls t) (block-at t) block.Post block-Inv-loop block-μ-loop
+block-mul-r-2 t c = let p = c .before .before .before .before .before .before .before .before .before .before .before .before .before .before .before .pre .1 in let n = opened-facts _ (p .0 .plain .opens) .bounds .records in let s = p .0 .leads .spare .long in let a = known-arms t (c .before .before .before .before) .inside in omega (arith, n, p .2)
+
+block-shared-slice-read-r-2 : (t : ℕ) → block-lts.Need-shared-slice-read-r-2 (block-calls t) (block-at t) block.Post block-Inv-loop block-μ-loop
+block-shared-slice-read-r-2 t c = let p = c .before .before .before .before .before .before .before .before .before .before .before .before .before .before .before .before .pre .1 in let n = opened-facts _ (p .0 .plain .opens) .bounds .records in let s = p .0 .leads .spare .long in let a = known-arms t (c .before .before .before .before .before) .inside in omega (arith, s, p .2)
 
 block-loop-less : (t : ℕ) → block-lts.Need-loop-less (block-calls t) (block-at t) block.Post block-Inv-loop block-μ-loop
-block-loop-less t c = search needs
+block-loop-less t c = let n = known-arms t (c .before .before .before .before .before) in let k = passing t (c .before .before .before .before .before .before .before .before .before .before) in omega (arith, n .inside, k .later)
 
 block-loop-again : (t : ℕ) → block-lts.Need-loop-again (block-calls t) (block-at t) block.Post block-Inv-loop block-μ-loop
 block-loop-again t c =
-    let n = known-arms t (c .before .before .before .before) in
-    let k = known t (c .before .before .before .before .before .before .before) in
-    let w = c .before .before .before .before .before .before .before .before .before .before .before .before .before .pre .1 in
-    let l = c .before .before .before .before .before .before .before .before .before .before .loop in (
-      omega (arith, l .inv .0),
+    let n = known-arms t (c .before .before .before .before .before) in
+    let k = known t (c .before .before .before .before .before .before .before .before) in
+    let s = passing t (c .before .before .before .before .before .before .before .before .before .before) in
+    let w = c .before .before .before .before .before .before .before .before .before .before .before .before .before .before .before .before .pre .1 in
+    let l = c .before .before .before .before .before .before .before .before .before .before .before .loop in (
+      omega (arith, l .inv .0, s .later),
       n .inside,
       n .rest,
-      step-arms _ _ _ _ _ _ (w .0 .inside) (c .before .before .before .before .before .before .before .before .before .loop-test .taken) (l .inv .2) _ (c .before .before .before .before .before .before .before .before .record-at .ensures) _ _ _ (l .inv .3) (c .before .before .before .before .before .before .if1 .taken) (k .high) _ _ (c .before .before .before .before .before .first-arm .ensures .0) (c .before .before .before .before .second-arm .ensures .0) (c .before .before .nested .ensures .ran),
-      c .before .before .nested .ensures .exact,
-      c .before .before .nested .kept .1 .1 .1 .1 .0 ∙ l .inv .5,
+      step-arms _ _ _ _ _ _ (w .0 .inside) (c .before .before .before .before .before .before .before .before .before .before .loop-test .taken) (s .walk) _ (c .before .before .before .before .before .before .before .before .before .record-at .ensures) _ _ _ (prefix-skip _ _ _ _ _ _ _ _ (l .inv .3) s) (c .before .before .before .before .before .before .before .if1 .taken) (k .high) _ _ (c .before .before .before .before .before .before .first-arm .ensures .0) (c .before .before .before .before .before .second-arm .ensures .0) (c .before .before .before .nested .ensures .ran),
+      c .before .before .before .nested .ensures .exact,
+      c .before .before .before .nested .kept .1 .1 .1 .1 .0 ∙ l .inv .5,
+      refl,
     )
 
-block-touches-requires : (t : ℕ) → block-lts.Need-touches-requires (block-calls t) (block-at t) block.Post block-Inv-loop block-μ-loop
-block-touches-requires t c κs = search needs
-
 block-cast-acted : (t : ℕ) → block-lts.Need-cast-acted (block-calls t) (block-at t) block.Post block-Inv-loop block-μ-loop
-block-cast-acted t c = let n = known t (c .before .before .before) in search needs
+block-cast-acted t c = let n = known t (c .before) .few in search needs
 
 block-acted-requires : (t : ℕ) → block-lts.Need-acted-requires (block-calls t) (block-at t) block.Post block-Inv-loop block-μ-loop
-block-acted-requires t c κs = let n = known t (c .before .before .before) in (n .low, omega arith, n .side (omega arith), omega (arith, n .few))
+block-acted-requires t c κs = let n = known t (c .before) in (n .low, omega arith, n .side (omega arith), omega (arith, n .few))
 
-block-add-r : (t : ℕ) → block-lts.Need-add-r (block-calls t) (block-at t) block.Post block-Inv-loop block-μ-loop
-block-add-r t c = search needs
+block-add-at : (t : ℕ) → block-lts.Need-add-at (block-calls t) (block-at t) block.Post block-Inv-loop block-μ-loop
+block-add-at t c = let n = known t (c .before .before) .few in search needs
+
+block-mul-r-3 : (t : ℕ) → block-lts.Need-mul-r-3 (block-calls t) (block-at t) block.Post block-Inv-loop block-μ-loop
+block-mul-r-3 t c = let p = c .before .before .before .before .before .before .before .before .before .before .pre .1 in let n = opened-facts _ (p .0 .plain .opens) .bounds .records in let s = p .0 .leads .spare .long in omega (arith, n, p .2)
+
+block-shared-slice-read-r-3 : (t : ℕ) → block-lts.Need-shared-slice-read-r-3 (block-calls t) (block-at t) block.Post block-Inv-loop block-μ-loop
+block-shared-slice-read-r-3 t c = let p = c .before .before .before .before .before .before .before .before .before .before .before .pre .1 in let n = opened-facts _ (p .0 .plain .opens) .bounds .records in let s = p .0 .leads .spare .long in omega (arith, s, p .2)
 
 block-loop-less-2 : (t : ℕ) → block-lts.Need-loop-less-2 (block-calls t) (block-at t) block.Post block-Inv-loop block-μ-loop
-block-loop-less-2 t c = search needs
+block-loop-less-2 t c = let k = passing t (c .before .before .before .before .before) in omega (arith, k .later)
 
 block-loop-again-2 : (t : ℕ) → block-lts.Need-loop-again-2 (block-calls t) (block-at t) block.Post block-Inv-loop block-μ-loop
 block-loop-again-2 t c =
     let k = known t (c .before .before .before) in
+    let s = passing t (c .before .before .before .before .before) in
     let l = c .before .before .before .before .before .before .loop in
-    let p = c .before .before .before .before .before .before .before .before .before .pre .1 in
+    let p = c .before .before .before .before .before .before .before .before .before .before .before .pre .1 in
     let low : c .before .before .before .before .record-at .result .kind ≤ 5 = omega arith in (
-      omega (arith, l .inv .0),
+      omega (arith, l .inv .0, s .later),
       omega arith,
       after-act (k .steps) low,
-      ⊎-elim
-          (λ w. step-touched _ _ _ _ _ _ (p .0 .inside) (c .before .before .before .before .before .loop-test .taken) (l .inv .2) _ (c .before .before .before .before .record-at .ensures) _ _ _ (l .inv .3) (k .low, low) _ (c .before .touches .ensures) (w .0 .taken) (rw (w .2) (w .1 .ensures)))
-          (λ w. step-untouched _ _ _ _ _ _ (p .0 .inside) (c .before .before .before .before .before .loop-test .taken) (l .inv .2) _ (c .before .before .before .before .record-at .ensures) _ _ _ (l .inv .3) (k .low, low) _ (c .before .touches .ensures) (w .0 .left) (w .1))
-          (c .if2 .came),
-      ⊎-elim (λ w. exact-lower _ _ _ _ _ _ (rw (w .2) (w .1 .ensures .lower)) (l .inv .4)) (λ w. rw (w .1) (l .inv .4)) (c .if2 .came),
+      step-act _ _ _ _ _ _ (p .0 .inside) (c .before .before .before .before .before .loop-test .taken) (s .walk) _ (c .before .before .before .before .record-at .ensures) _ _ _ (prefix-skip _ _ _ _ _ _ _ _ (l .inv .3) s) (k .low, low)
+          (skip-to _ _ (p .0 .plain) _ _ (p .0 .inside) _ (p .0 .leads) _ _ _ (l .inv .2) (p .2) (l .inv .1) (l .inv .6) (c .before .before .before .before .before .loop-test .taken) _ (c .before .before .before .before .record-at .ensures) (omega arith))
+          (c .before .acted .ensures),
+      exact-lower _ _ _ _ _ _ (c .before .acted .ensures .lower) (l .inv .4),
       l .inv .5,
+      refl,
     )
 
 block-same-length : (t : ℕ) → block-lts.Need-same-length (block-calls t) (block-at t) block.Post block-Inv-loop block-μ-loop
 block-same-length t c = c .before .loop .inv .5
 
 block-returns : (t : ℕ) → block-lts.Need-returns (block-calls t) (block-at t) block.Post block-Inv-loop block-μ-loop
-block-returns t c = let l = c .before .loop in record { ran = prefix-all _ _ _ _ _ _ _ (c .loop-test .left) (l .inv .3); exact = l .inv .4 }
+block-returns t c =
+    let l = c .before .loop in
+    let p = c .before .before .before .before .before .before .pre .1 in
+    let s = skip-rest _ _ (p .0 .plain) _ _ (p .0 .inside) _ (p .0 .leads) _ _ _ (l .inv .2) (p .2) (l .inv .1) (l .inv .6) (omega arith) in
+    record { ran = prefix-all _ _ _ _ _ _ _ (omega arith) (prefix-skip _ _ _ _ _ _ _ _ (l .inv .3) s); exact = l .inv .4 }
 
 nested-add-block : (t : ℕ) → nested-lts.Need-add-block (nested-calls t) (nested-at t) nested.Post
 nested-add-block t c = search needs
 
 nested-block-requires : (t : ℕ) → nested-lts.Need-block-requires (nested-calls t) (nested-at t) nested.Post
 nested-block-requires t c κs =
-    let w = c .before .before .before .before .pre in
+    let w = c .before .before .before .before .before .pre in
     (omega (arith, w .0, w .1 .1 .ends, w .1 .2), (w .1 .0, omega (arith, w .1 .1 .ends), w .1 .1 .below, w .1 .1 .walk))
 
 nested-block-requires-2 : (t : ℕ) → nested-lts.Need-block-requires-2 (nested-calls t) (nested-at t) nested.Post
@@ -243,7 +272,7 @@ row-of-exits-of-requires : (t : ℕ) → row-of-lts.Need-exits-of-requires (row-
 row-of-exits-of-requires t c κs = search needs
 
 row-of-returns : (t : ℕ) → row-of-lts.Need-returns (row-of-calls t) (row-of-at t) row-of.Post
-row-of-returns t c = let p = c .before .before .before .before .before .pre .1 in row-known _ _ _ _ _ _ (p .2) (p .1) _ _ _ (p .0 .exact) (c .before .if1 .taken) (c .exits-of .ensures) refl
+row-of-returns t c = let p = c .before .before .before .before .before .before .pre .1 in row-known _ _ _ _ _ _ (p .2) (p .1) _ _ _ (p .0 .exact) (c .before .if1 .taken) (c .exits-of .ensures) refl
 
 row-of-only-requires : (t : ℕ) → row-of-lts.Need-only-requires (row-of-calls t) (row-of-at t) row-of.Post
 row-of-only-requires t c κs = search needs
@@ -253,11 +282,11 @@ row-of-add-block t c = search needs
 
 row-of-block-requires : (t : ℕ) → row-of-lts.Need-block-requires (row-of-calls t) (row-of-at t) row-of.Post
 row-of-block-requires t c κs =
-    let w = c .before .before .before .before .before .before .pre in
+    let w = c .before .before .before .before .before .before .before .pre in
     (omega (arith, w .0), (w .1 .0, omega (arith, w .1 .1 .ends), w .1 .1 .below, w .1 .1 .walk))
 
 row-of-packed-requires : (t : ℕ) → row-of-lts.Need-packed-requires (row-of-calls t) (row-of-at t) row-of.Post
-row-of-packed-requires t c κs = c .before .before .before .before .before .before .before .before .before .pre .1 .0 .small
+row-of-packed-requires t c κs = c .before .before .before .before .before .before .before .before .before .before .pre .1 .0 .small
 
 row-of-mul-rows : (t : ℕ) → row-of-lts.Need-mul-rows (row-of-calls t) (row-of-at t) row-of.Post
 row-of-mul-rows t c = let n = few t (c .before .before .before .before .before .before .before .before) in let l = c .before .before .before .block .kept .1 .1 .1 .1 .0 in search needs
@@ -270,20 +299,20 @@ row-of-same-length t c = simp length-set (c .before .before .before .block .kept
 
 row-of-returns-2 : (t : ℕ) → row-of-lts.Need-returns-2 (row-of-calls t) (row-of-at t) row-of.Post
 row-of-returns-2 t c =
-    let p = c .before .before .before .before .before .before .before .before .before .before .pre .1 in
+    let p = c .before .before .before .before .before .before .before .before .before .before .before .pre .1 in
     row-kept _ _ _ _ _ _ (p .2) (p .1) _ _ _ _ _ (c .packed .ensures .0) (c .packed .ensures .1) (c .before .before .before .before .before .only .ensures) refl (c .before .before .before .block .ensures)
 
 abbrev turned-Inv-loop : turned-lts.InvT-loop
-turned-Inv-loop plan bodies array offset rows₀ class r second t₀ looked₀ todo₀ rows t looked todo =
+turned-Inv-loop plan bodies array offset rows₀ ahead class r second t₀ looked₀ todo₀ rows t looked todo =
     Turning (arrays-of plan) (cell-at plan (array .0) offset) (block-between plan (r + 1) second) t₀ t looked todo
     × Exact plan (cell-at plan (array .0) offset) class rows (t .low)
     × (length rows ≡ length rows₀)
 
 abbrev turned-μ-loop : turned-lts.MeasureT-loop
-turned-μ-loop plan bodies array offset rows₀ class r second t₀ looked₀ todo₀ rows t looked todo = 65535 - looked
+turned-μ-loop plan bodies array offset rows₀ ahead class r second t₀ looked₀ todo₀ rows t looked todo = 65535 - looked
 
 turned-loop-holds : (t : ℕ) → turned-lts.Need-loop-holds (turned-calls t) (turned-at t) turned.Post turned-Inv-loop turned-μ-loop
-turned-loop-holds t c = (turning-none _ _ _ _, c .before .before .pre .1 .0 .exact, refl)
+turned-loop-holds t c = (turning-none _ _ _ _, c .before .before .before .pre .1 .0 .exact, refl)
 
 turned-lowest-requires : (t : ℕ) → turned-lts.Need-lowest-requires (turned-calls t) (turned-at t) turned.Post turned-Inv-loop turned-μ-loop
 turned-lowest-requires t c κs = search needs
@@ -312,7 +341,7 @@ turned-same-length : (t : ℕ) → turned-lts.Need-same-length (turned-calls t) 
 turned-same-length t c = c .before .loop .inv .2
 
 turned-returns : (t : ℕ) → turned-lts.Need-returns (turned-calls t) (turned-at t) turned.Post turned-Inv-loop turned-μ-loop
-turned-returns t c = record { ran = turning-all _ _ _ _ _ _ _ (c .before .loop .inv .0) (c .before .before .before .before .args .r) (c .loop-test .left); exact = c .before .loop .inv .1 }
+turned-returns t c = record { ran = turning-all _ _ _ _ _ _ _ (c .before .loop .inv .0) (c .before .before .before .before .before .args .r) (c .loop-test .left); exact = c .before .loop .inv .1 }
 
 pub +block+nested+row-of+turned-spec : {M : Type 1} → statement M
 +block+nested+row-of+turned-spec = close μ-block μ-nested μ-row-of μ-turned (λ t. block-lts.spec (block-calls t)
@@ -320,6 +349,8 @@ pub +block+nested+row-of+turned-spec : {M : Type 1} → statement M
     block.Post
     block-Inv-loop
     block-μ-loop
+    (block-mul-r t)
+    (block-shared-slice-read-r t)
     (block-loop-holds t)
     (block-record-at-requires t)
     (block-add-second t)
@@ -328,12 +359,15 @@ pub +block+nested+row-of+turned-spec : {M : Type 1} → statement M
     (block-second-arm-requires t)
     (block-add-next t)
     (block-nested-requires t)
+    (block-mul-r-2 t)
+    (block-shared-slice-read-r-2 t)
     (block-loop-less t)
     (block-loop-again t)
-    (block-touches-requires t)
     (block-cast-acted t)
     (block-acted-requires t)
-    (block-add-r t)
+    (block-add-at t)
+    (block-mul-r-3 t)
+    (block-shared-slice-read-r-3 t)
     (block-loop-less-2 t)
     (block-loop-again-2 t)
     (block-same-length t)

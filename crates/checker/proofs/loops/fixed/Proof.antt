@@ -14,17 +14,17 @@ use Rattle.checker.proofs.loops.fixed.Statement.{statement}
 use Rattle.checker.proofs.loops.fixed.Tie as tie
 
 abbrev Inv-loop : tie.InvT-loop
-Inv-loop plan bodies array offset rows₀ class turns r second t₀ before₀ i₀ rows t before i =
+Inv-loop plan bodies array offset rows₀ ahead class turns r second t₀ before₀ i₀ rows t before i =
     (i ≤ turns)
     × Turns (arrays-of plan) (cell-at plan (array .0) offset) (block-between plan (r + 1) second) t₀ i before t
     × Exact plan (cell-at plan (array .0) offset) class rows (t .low)
     × (length rows ≡ length rows₀)
 
 abbrev μ-loop : tie.MeasureT-loop
-μ-loop plan bodies array offset rows₀ class turns r second t₀ before₀ i₀ rows t before i = turns - i
+μ-loop plan bodies array offset rows₀ ahead class turns r second t₀ before₀ i₀ rows t before i = turns - i
 
 loop-holds : tie.Need-loop-holds Inv-loop μ-loop
-loop-holds c = (search needs, turns-none _ _ _ _, c .before .before .pre .0 .exact, refl)
+loop-holds c = (search needs, turns-none _ _ _ _, c .before .before .before .pre .0 .exact, refl)
 
 turn-requires : tie.Need-turn-requires Inv-loop μ-loop
 turn-requires c κs = search needs

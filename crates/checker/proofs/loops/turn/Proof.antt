@@ -11,16 +11,16 @@ use Rattle.checker.proofs.loops.turn.Statement.{statement}
 use Rattle.checker.proofs.loops.turn.Tie as tie
 
 abbrev Inv-loop : tie.InvT-loop
-Inv-loop plan bodies array offset rows₀ class r second t₀ todo₀ rows t todo =
+Inv-loop plan bodies array offset rows₀ ahead class r second t₀ todo₀ rows t todo =
     Part (arrays-of plan) (cell-at plan (array .0) offset) (block-between plan (r + 1) second) todo₀ (t₀ .low) t todo
     × Exact plan (cell-at plan (array .0) offset) class rows (t .low)
     × (length rows ≡ length rows₀)
 
 abbrev μ-loop : tie.MeasureT-loop
-μ-loop plan bodies array offset rows₀ class r second t₀ todo₀ rows t todo = todo
+μ-loop plan bodies array offset rows₀ ahead class r second t₀ todo₀ rows t todo = todo
 
 loop-holds : tie.Need-loop-holds Inv-loop μ-loop
-loop-holds c = (part-none _ _ _ _ _ _ refl refl, c .before .before .pre .0 .exact, refl)
+loop-holds c = (part-none _ _ _ _ _ _ refl refl, c .before .before .before .pre .0 .exact, refl)
 
 lowest-requires : tie.Need-lowest-requires Inv-loop μ-loop
 lowest-requires c κs = search needs
