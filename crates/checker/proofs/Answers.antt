@@ -26,11 +26,12 @@ use Rattle.format.specs.Plans.{plan-of}
 use Rattle.format.specs.Inner.Walks.{Plain, Starts, block-between}
 use Rattle.reading.proofs.Tables.{first-more, first-rises, all-cells}
 use Rattle.format.proofs.Walking.{opened-facts}
-use Rattle.checker.specs.declared.acts.Found.{Found}
-use Rattle.checker.specs.Inner.Sets.{index, bit, In, record-of, at-start}
-use Rattle.checker.specs.Inner.Ways.{Below, Ran, cell-at, Passed}
+use Rattle.statuses.specs.declared.acts.Found.{Found}
+use Rattle.statuses.specs.Inner.Sets.{index, bit, In, record-of, at-start}
+use Rattle.statuses.specs.Inner.Ran.{Below, Ran}
+use Rattle.checker.specs.Inner.Ways.{cell-at, Passed}
 use Rattle.checker.specs.Inner.Walks.{Span, Marked}
-use Rattle.checker.proofs.Statuses.{all-equal}
+use Rattle.statuses.proofs.Statuses.{all-equal}
 use Rattle.checker.proofs.Classes.{stop-alike}
 
 -- the status at the start is the only one in this set

@@ -24,10 +24,10 @@ use Rattle.reading.proofs.Tables.{first-rises, next-cell, all-cells}
 use Rattle.format.proofs.Walking.{opened-facts, steps}
 use Rattle.format.proofs.Trees.{block-none, block-branch, block-loop, block-act, plain-walk, plain-body}
 use Rattle.checker.specs.Inner.Ahead.{covers}
-use Rattle.checker.specs.Inner.Sets.{at-start}
+use Rattle.statuses.specs.Inner.Sets.{at-start}
 use Rattle.checker.specs.Inner.Ways.{cell-at}
 use Rattle.checker.specs.Inner.Walks.{Marked}
-use Rattle.checker.proofs.Tests.{leb-before, ltb-before}
+use Rattle.statuses.proofs.Tests.{leb-before, ltb-before}
 use Rattle.checker.proofs.Touched.{touches, touched-met-in, touched-status-after, untouched-met-in, untouched-status-after}
 use Rattle.checker.proofs.Actions.{act-covers}
 use Rattle.format.proofs.Acts.{here, cells-fit}

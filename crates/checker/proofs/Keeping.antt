@@ -15,10 +15,10 @@ use Rattle.model.specs.Blocks.{Block, done, loop}
 use Rattle.model.proofs.Status.{Status}
 use Rattle.reading.specs.Bytes.{arrays-of, record-count}
 use Rattle.format.specs.Inner.Walks.{block-between}
-use Rattle.checker.specs.declared.acts.Found.{Found}
-use Rattle.checker.specs.Inner.Sets.{statuses, index, bit, In}
+use Rattle.statuses.specs.declared.acts.Found.{Found}
+use Rattle.statuses.specs.Inner.Sets.{statuses, index, bit, In}
 use Rattle.checker.specs.Inner.Ways.{Kept, Room, Exact, Body, nest, Passed}
-use Rattle.checker.proofs.Statuses.{index-below}
+use Rattle.statuses.proofs.Statuses.{index-below}
 use Rattle.checker.proofs.Ways.{Found-in, ran-branch}
 
 module _ (f : List ℕ) where

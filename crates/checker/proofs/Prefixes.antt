@@ -16,10 +16,11 @@ use Rattle.format.specs.Plans.{side-of, action-of}
 use Rattle.format.specs.Inner.Walks.{Walkable, block-between}
 use Rattle.format.proofs.Trees.{block-none, block-branch, block-loop}
 use Rattle.format.proofs.Acts.{Arms}
-use Rattle.checker.specs.declared.acts.Found.{Found}
+use Rattle.statuses.specs.declared.acts.Found.{Found}
 use Rattle.checker.specs.Inner.Ahead.{covers}
-use Rattle.checker.specs.Inner.Sets.{In, touched-met, touched-after}
-use Rattle.checker.specs.Inner.Ways.{Ran, cell-at, Body, nest}
+use Rattle.statuses.specs.Inner.Sets.{In, touched-met, touched-after}
+use Rattle.statuses.specs.Inner.Ran.{Ran}
+use Rattle.checker.specs.Inner.Ways.{cell-at, Body, nest}
 use Rattle.checker.proofs.Actions.{act-kind, act-side, next-act, act-covers}
 use Rattle.checker.proofs.Ways.{Found-in, ran-none, ran-then, ran-touched}
 use Rattle.checker.proofs.Skips.{ran-skip}

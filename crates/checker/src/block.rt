@@ -5,18 +5,18 @@ ghost use Prim.Native.Nat.{_+_, _/_, _%_, _≤_, _<_};
 ghost use Rattle.model.specs.Blocks.{done, loop};
 ghost use Rattle.reading.specs.Bytes.{record-count};
 ghost use Rattle.format.specs.Inner.Walks.{Walkable, block-between};
-ghost use Rattle.checker.specs.Inner.Sets.{statuses, index, In};
+ghost use Rattle.statuses.specs.Inner.Sets.{statuses, index, In};
 ghost use Rattle.checker.specs.Inner.Ways.{cell-at, Ready, Body, nest, Passed};
-use crate::acts::Found;
-use crate::acts::acted;
-use crate::sets::lowest;
-use crate::sets::only;
-use crate::sets::with;
-use crate::sets::without;
 use model::Array;
 use reading::first_arm;
 use reading::record_at;
 use reading::second_arm;
+use statuses::acts::Found;
+use statuses::acts::acted;
+use statuses::sets::lowest;
+use statuses::sets::only;
+use statuses::sets::with;
+use statuses::sets::without;
 
 // A row of this class with these exits.
 fn packed(class: u32, set: u16) -> u32

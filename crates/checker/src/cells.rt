@@ -8,12 +8,10 @@ ghost use Rattle.model.proofs.Check.{Least, with-cell, Fits};
 ghost use Rattle.reading.specs.Bytes.{array-count, arrays-of, record-count};
 ghost use Rattle.format.specs.Plans.{plan-of};
 ghost use Rattle.format.specs.Inner.Walks.{Plain, Starts};
-ghost use Rattle.checker.specs.Inner.Sets.{record-of};
+ghost use Rattle.statuses.specs.Inner.Sets.{record-of};
 ghost use Rattle.checker.specs.Inner.Ways.{cell-at, Room};
 ghost use Rattle.checker.specs.Inner.Ahead.{Spare};
 ghost use Rattle.checker.specs.Inner.Walks.{Span, Marked};
-use crate::acts::Found;
-use crate::acts::NONE;
 use crate::ahead::NOWHERE;
 use crate::ahead::look_ahead;
 use crate::block::block;
@@ -22,6 +20,8 @@ use model::Cell;
 use model::Record;
 use model::Verdict;
 use reading::record_at;
+use statuses::acts::Found;
+use statuses::acts::NONE;
 
 // How many places there are where cells of a record may begin or end.
 const PLACES: usize = 4097;

@@ -6,13 +6,11 @@ use cells::answer;
 use contents::Opened;
 use model::Verdict;
 
-pub mod acts;
 mod ahead;
 mod block;
 mod cells;
 mod fields;
 mod loops;
-mod sets;
 
 // The check of a plan file that opening has found to be o.
 pub fn check_opened(plan: &[u8], o: Opened) -> Verdict

@@ -6,9 +6,10 @@ use Rattle.model.specs.Blocks.{Block}
 use Rattle.model.proofs.Status.{Status}
 use Rattle.model.proofs.Through.{Goes, Stops}
 use Rattle.reading.specs.Bytes.{arrays-of}
-use Rattle.checker.specs.declared.acts.Found.{Found}
-use Rattle.checker.specs.Inner.Sets.{In}
-use Rattle.checker.specs.Inner.Ways.{Ran, Exact}
+use Rattle.statuses.specs.declared.acts.Found.{Found}
+use Rattle.statuses.specs.Inner.Sets.{In}
+use Rattle.statuses.specs.Inner.Ran.{Ran}
+use Rattle.checker.specs.Inner.Ways.{Exact}
 
 -- n steps
 abbrev pub Power : (Status → Status → Type 0) → ℕ → Status → Status → Type 0

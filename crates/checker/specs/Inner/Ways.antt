@@ -1,7 +1,7 @@
 -- What the walk of one cell through a block finds, and the rows that it keeps.
 use Prim.Native.Nat.{ℕ, _+_, _*_, _/_, _%_, _≤_, _<_}
 use mathlib.Core.Path.{_≡_}
-use mathlib.Core.Logic.{_⊎_, _↔_}
+use mathlib.Core.Logic.{_↔_}
 use mathlib.Core.Bool.{cond}
 use mathlib.Core.List.{List}
 use lib.Dec.{eqb}
@@ -12,23 +12,10 @@ use Rattle.model.proofs.Status.{Status}
 use Rattle.model.proofs.Through.{Goes, Stops}
 use Rattle.reading.specs.Bytes.{arrays-of, record-count, fields-at, first-arm}
 use Rattle.format.specs.Inner.Walks.{Plain, Walkable, block-between}
-use Rattle.checker.specs.declared.acts.Found.{Found}
+use Rattle.statuses.specs.declared.acts.Found.{Found}
+use Rattle.statuses.specs.Inner.Ran.{Below, Ran}
 use Rattle.checker.specs.Inner.Ahead.{Ahead}
-use Rattle.checker.specs.Inner.Sets.{statuses, index, In}
-
--- `low` is a record, at most r
-abbrev pub Below : ℕ → ℕ → Type 0
-Below low r = (low ≤ r) × (low < 65535)
-
--- t is what is found from the statuses that `from` names, where G says how a status goes on and S at which records it stops; `low` was the lowest stop so far
-pub record Ran (G : Status → Status → Type 0) (S : Status → ℕ → Type 0) (from : Status → Type 0) (low : ℕ) (t : Found) : Type 0 where
-  -- the set is the image
-  pub exits : (v : Status) → In (t .set) v ↔ ((u : Status) × from u × G u v)
-  -- the lowest stop is that so far or one of these
-  pub lower : t .low ≤ low
-  pub named : (t .low ≡ low) ⊎ ((u : Status) × from u × S u (t .low))
-  -- and at most each of these
-  pub least : (u : Status) (r : ℕ) → from u → S u r → Below (t .low) r
+use Rattle.statuses.specs.Inner.Sets.{statuses, index, In}
 
 -- the number of cell `offset` of an array
 abbrev pub cell-at : List ℕ → ℕ → ℕ → ℕ

@@ -1,0 +1,2 @@
+-- The statuses of one cell.
+pub mod Inner
