@@ -143,6 +143,23 @@ fn plans_that_need_many_turns() {
     }
 }
 
+/// What was found of a loop's arm for one cell says nothing of another.
+#[test]
+fn loops_that_tell_cells_apart() {
+    let mut rng = Rng::new(65);
+    let mut found = 0;
+    while found < 300 {
+        let draft = many_classes(&mut rng);
+        let draft = mended(&mut rng, draft, 20);
+        let plan = walker::open(&encode(&draft)).unwrap();
+        let kept = Checker { keeps_rows: true, ..Checker::default() }.check(&plan);
+        if kept != check::brute(&plan) {
+            match_brute(&draft, &mut Counts::new());
+            found += 1;
+        }
+    }
+}
+
 /// The stop may be at the last record and the last cell.
 #[test]
 fn the_last_record_and_cell() {
@@ -185,15 +202,17 @@ fn near_checkers_differ() {
     for _ in 0..6000 {
         let draft = turning(&mut rng);
         plans.push(walker::open(&encode(&mended(&mut rng, draft, 20))).unwrap());
+        plans.push(walker::open(&encode(&many_classes(&mut rng))).unwrap());
     }
     let ours: Vec<Option<Stop>> = plans.iter().map(|plan| answer_of(&plan.to_bytes())).collect();
     let none = Checker::default();
-    let wrong: [(&str, NearChecker); 8] = [
+    let wrong: [(&str, NearChecker); 9] = [
         ("loops turned twice", Box::new(move |plan| Checker { turns: Some(2), ..none }.check(plan))),
         ("arms joined", Box::new(move |plan| Checker { joins_arms: true, ..none }.check(plan))),
         ("a write sets a flag", Box::new(move |plan| Checker { write_sets_flag: true, ..none }.check(plan))),
         ("a copy sets a flag", Box::new(move |plan| Checker { copy_sets_flag: true, ..none }.check(plan))),
         ("a run ends at its stop", Box::new(move |plan| Checker { ends_at_stop: true, ..none }.check(plan))),
+        ("rows of another cell", Box::new(move |plan| Checker { keeps_rows: true, ..none }.check(plan))),
         ("the highest cell", Box::new(move |plan| Checker { highest_cell: true, ..none }.check(plan))),
         ("accepts all", Box::new(near::accepts_all)),
         ("stops all", Box::new(near::stops_all)),

@@ -10,15 +10,14 @@ use native.Mathlib.Numerals.{add-one}
 use native.Mathlib.Omega.{arith}
 use lib.Dec.{eqb, ltb}
 use lib.ListN.{getD}
-use borrow.Author.Tests.{eqb-false, eq-eqb, ne-eqb, lt-ltb, le-ltb}
+use borrow.Author.Tests.{eqb-true, eqb-false, eq-eqb, ne-eqb, lt-ltb, le-ltb}
 use Rattle.model.specs.declared.Verdict.{Verdict}
 use Rattle.model.specs.declared.Verdict.the-variants.{Accepted, Stopped, Refused}
 use Rattle.model.specs.declared.Record.{Record}
 use Rattle.model.specs.declared.Cell.{Cell}
 use Rattle.model.specs.Sides.{length-of, first-of}
 use Rattle.model.specs.Verdicts.{stop}
-use Rattle.model.proofs.Bits.{equal}
-use Rattle.model.proofs.Status.{Status, alike, alike-same, alike-true}
+use Rattle.model.proofs.Status.{Status}
 use Rattle.model.proofs.Through.{StopsAt}
 use Rattle.model.proofs.Check.{AtMost, Least, with-cell, Fits, fits-cell, fits-alike}
 use Rattle.reading.specs.Bytes.{array-count, arrays-of, record-count, fields-at}
@@ -27,38 +26,38 @@ use Rattle.format.specs.Inner.Walks.{Plain, Starts, block-between}
 use Rattle.reading.proofs.Tables.{first-more, first-rises, all-cells}
 use Rattle.format.proofs.Walking.{opened-facts}
 use Rattle.statuses.specs.declared.acts.Found.{Found}
-use Rattle.statuses.specs.Inner.Sets.{index, bit, In, record-of, at-start}
+use Rattle.statuses.specs.Inner.Sets.{statuses, index, bit, In, record-of, at-start}
 use Rattle.statuses.specs.Inner.Ran.{Below, Ran}
 use Rattle.checker.specs.Inner.Ways.{cell-at, Passed}
 use Rattle.checker.specs.Inner.Walks.{Span, Marked}
-use Rattle.statuses.proofs.Statuses.{all-equal}
+use Rattle.statuses.proofs.Statuses.{index-below, index-one}
 use Rattle.checker.proofs.Classes.{stop-alike}
 
--- the status at the start is the only one in this set
-start-in : (u : Status) → In 1024 u ↔ (u ≡ at-start)
-unfolding bit equal
-start-in u = (λ e. alike-true u at-start (sym (test u) ∙ e), λ e. rw e (test at-start ∙ alike-same at-start))
-  where
-    test : (u : Status) → bit 1024 (index u) ≡ alike u at-start
-    test = all-equal (λ u. bit 1024 (index u)) (λ u. alike u at-start) refl
+-- the set of the status at the start
+abbrev Begins : ℕ → Type 0
+Begins set = (i : ℕ) → i < statuses → bit set i ≡ eqb i 10
+
+start-in : (set : ℕ) → Begins set → (u : Status) → In set u ↔ (u ≡ at-start)
+start-in set b u = (λ e. index-one u at-start (eqb-true _ 10 (sym (b (index u) (index-below u)) ∙ e)), λ e. rw e (b 10 (omega arith)))
 
 -- what is found from it is the lowest stop
-least-found : {G : Status → Status → Type 0} {S : Status → ℕ → Type 0} (t : Found) → Ran G S (In 1024) 65535 t → Least (record-of (t .low)) (S at-start)
-least-found {S = S} t m = record { named = λ n e. go (eqb (t .low) 65535) refl n e; least = λ r s. below r (m .least at-start r (start-in at-start .1 refl) s) }
+least-found : {G : Status → Status → Type 0} {S : Status → ℕ → Type 0} (set : ℕ) → Begins set → (t : Found) → Ran G S (In set) 65535 t → Least (record-of (t .low)) (S at-start)
+least-found {S = S} set b t m = record { named = λ n e. go (eqb (t .low) 65535) refl n e; least = λ r s. below r (m .least at-start r (start-in set b at-start .1 refl) s) }
   where
     go : (b : Bool) → eqb (t .low) 65535 ≡ b → (n : ℕ) → cond b none (some (t .low)) ≡ some n → S at-start n
     go true q n e = absurd (true≢false (cc))
     go false q n e = let z : t .low ≡ n = cc in elim (m .named) [
       | inl d ↦ absurd (eqb-false (t .low) 65535 q d)
-      | inr p ↦ rw (← z) (subst (λ u. S u (t .low)) (start-in (p .0) .0 (p .1)) (p .2))
+      | inr p ↦ rw (← z) (subst (λ u. S u (t .low)) (start-in set b (p .0) .0 (p .1)) (p .2))
     ]
 
     below : (r : ℕ) → Below (t .low) r → AtMost (record-of (t .low)) r
     below r h = rw (ne-eqb (t .low) 65535 (λ e. omega arith)) (h .0)
 
-pub stop-is : (f : List ℕ) (c class : ℕ) (rows : List ℕ) (t : Found) → Passed f c class (block-between f 0 (record-count f)) (In 1024) 65535 rows t → Least (record-of (t .low)) (λ r. StopsAt (plan-of f) r c)
+pub stop-is : (f : List ℕ) (c class : ℕ) (rows : List ℕ) (start t : Found) → Begins (start .set) → start .low ≡ 65535 →
+    Passed f c class (block-between f 0 (record-count f)) (In (start .set)) (start .low) rows t → Least (record-of (t .low)) (λ r. StopsAt (plan-of f) r c)
 unfolding plan-of block-between
-stop-is f c class rows t p = least-found t (p .ran)
+stop-is f c class rows start t b e p = least-found (start .set) b t (rw e at (p .ran))
 
 -- with cell c, which can stop at record k
 module _ (v : Verdict) (c k : ℕ) where

@@ -9,14 +9,13 @@ use native.Mathlib.Decide.{decLt}
 use lib.Dec.{eqb}
 use lib.ListN.{length, length-set, getD, set, replicate, length-replicate, getD-replicate, List·getD-eq-default}
 use lib.Seq.{getD-set-same, getD-set-other}
-use lib.Bits.{bitOr}
 use borrow.Author.Tests.{eqb-true, eq-eqb, ne-eqb}
 use Rattle.model.specs.Blocks.{Block, done, loop}
 use Rattle.model.proofs.Status.{Status}
 use Rattle.reading.specs.Bytes.{arrays-of, record-count}
 use Rattle.format.specs.Inner.Walks.{block-between}
 use Rattle.statuses.specs.declared.acts.Found.{Found}
-use Rattle.statuses.specs.Inner.Sets.{statuses, index, bit, In}
+use Rattle.statuses.specs.Inner.Sets.{statuses, index, bit, In, Union}
 use Rattle.checker.specs.Inner.Ways.{Kept, Room, Exact, Body, nest, Passed}
 use Rattle.statuses.proofs.Statuses.{index-below}
 use Rattle.checker.proofs.Ways.{Found-in, ran-branch}
@@ -115,7 +114,7 @@ module _ (f : List ℕ) (c class : ℕ) where
 
   -- a branch: its arms one after the other, each from the same statuses
   pub passed-branch : (kind r : ℕ) (x y : Block) (rows rows′ : List ℕ) (start again one two t : Found) → kind ≡ 6 → again .set ≡ start .set → again .low ≡ one .low →
-      t .set ≡ bitOr (one .set) (two .set) → t .low ≡ two .low →
+      Union (t .set) (one .set) (two .set) → t .low ≡ two .low →
       Passed f c class x (In (start .set)) (start .low) rows one → Passed f c class y (In (again .set)) (again .low) rows′ two → Passed f c class (nest kind r x y) (In (start .set)) (start .low) rows′ t
   passed-branch kind r x y rows rows′ start again one two t e es el ts tl p q = record {
     ran = rw (eq-eqb kind 6 e) (ran-branch (arrays-of f) c x y (In (start .set)) (start .low) one two (p .ran) r (rw (← es, ← el) (q .ran)) t ts tl);

@@ -13,8 +13,10 @@ use reading::record_at;
 use reading::second_arm;
 use statuses::acts::Found;
 use statuses::acts::acted;
+use statuses::sets::EMPTY;
 use statuses::sets::lowest;
 use statuses::sets::only;
+use statuses::sets::union;
 use statuses::sets::with;
 use statuses::sets::without;
 
@@ -95,9 +97,9 @@ fn turned(
     ensures { λ t. ⌜ Passed (now (plan .entry)) (cell-at (now (plan .entry)) (array .0) offset) class (loop r (block-between (now (plan .entry)) (r + 1) second) done) (In (start .set)) (start .low) (now (rows .exit)) t ⌝ }
 {
     let mut t = start;
-    let mut looked: u16 = 0;
+    let mut looked = EMPTY;
     let mut todo = start.set;
-    while todo != 0 {
+    while todo != EMPTY {
         let w = lowest(todo);
         let row = row_of(
             plan,
@@ -113,7 +115,7 @@ fn turned(
             w,
         );
         t = Found {
-            set: t.set | row.set,
+            set: union(t.set, row.set),
             low: row.low,
         };
         looked = with(looked, w);
@@ -170,7 +172,7 @@ fn nested(
             next,
         );
         return Found {
-            set: one.set | two.set,
+            set: union(one.set, two.set),
             low: two.low,
         };
     }

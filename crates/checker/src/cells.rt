@@ -22,6 +22,8 @@ use model::Verdict;
 use reading::record_at;
 use statuses::acts::Found;
 use statuses::acts::NONE;
+use statuses::acts::START;
+use statuses::sets::only;
 
 // How many places there are where cells of a record may begin or end.
 const PLACES: usize = 4097;
@@ -64,7 +66,7 @@ fn with_cell(v: Verdict, c: Cell, k: u16) -> Verdict
     }
 }
 
-// The lowest record at which cell c, cell `offset` of an array, can stop, NONE if there is none. At the start host copy and host flag are set.
+// The lowest record at which cell c, cell `offset` of an array, can stop, NONE if there is none.
 fn stop_of(
     plan: &[u8],
     bodies: usize,
@@ -80,7 +82,7 @@ fn stop_of(
 {
     look_ahead(plan, bodies, records, array, offset, ahead);
     let start = Found {
-        set: 1024,
+        set: only(START),
         low: NONE,
     };
     let t = block(

@@ -5,15 +5,14 @@ use mathlib.Core.Logic.{_⊎_, inl, inr}
 use mathlib.Core.Bool.{Bool, true, false, not, _&&_}
 use native.Mathlib.Omega.{arith}
 use lib.Dec.{eqb}
-use lib.Bits.{bitOr}
 use borrow.Author.Tests.{eqb-true, eq-eqb}
-use Rattle.model.proofs.Booleans.{or-out, or-left, or-right, and-out}
+use Rattle.model.proofs.Booleans.{and-out}
 use Rattle.model.proofs.Status.{Status}
 use Rattle.statuses.specs.declared.acts.Found.{Found}
-use Rattle.statuses.specs.Inner.Sets.{statuses, index, bit, In}
+use Rattle.statuses.specs.Inner.Sets.{statuses, index, bit, In, Union}
 use Rattle.statuses.specs.Inner.Ran.{Ran}
-use Rattle.statuses.proofs.Words.{bit-or, no-bit}
-use Rattle.statuses.proofs.Statuses.{numbered, index-numbered, index-below, index-one}
+use Rattle.statuses.proofs.Words.{no-bit}
+use Rattle.statuses.proofs.Statuses.{numbered, index-numbered, index-below, index-one, in-union}
 
 -- record k leaves a status in another, and stops the cell where it is unmet
 module _ (after : Status → Status) (met : Status → Bool) (k : ℕ) (t : Found) where
@@ -41,9 +40,9 @@ module _ (after : Status → Status) (met : Status → Bool) (k : ℕ) (t : Foun
         done u b = elim (m .rest u b) [ inl q ↦ absurd (no-bit todo (index u) e q) | inr q ↦ q ]
 
     pub moving-more : (w : ℕ) → w < statuses → bit todo w ≡ true → (a : ℕ) (stops : Bool) → ((u : Status) → index u ≡ w → (index (after u) ≡ a) × (not (met u) ≡ stops)) →
-        (o low′ todo′ : ℕ) → ((i : ℕ) → i < statuses → bit o i ≡ eqb i a) → (low′ ≤ low) × ((low′ ≡ low) ⊎ ((low′ ≡ k) × (stops ≡ true))) × (stops ≡ true → low′ ≤ k) →
-        ((i : ℕ) → i < statuses → bit todo′ i ≡ (not (eqb i w) && bit todo i)) → Moving (bitOr o set) low′ todo′
-    moving-more w h b a stops leaf o low′ todo′ eo el et = record {
+        (o set′ low′ todo′ : ℕ) → ((i : ℕ) → i < statuses → bit o i ≡ eqb i a) → Union set′ o set → (low′ ≤ low) × ((low′ ≡ low) ⊎ ((low′ ≡ k) × (stops ≡ true))) × (stops ≡ true → low′ ≤ k) →
+        ((i : ℕ) → i < statuses → bit todo′ i ≡ (not (eqb i w) && bit todo i)) → Moving set′ low′ todo′
+    moving-more w h b a stops leaf o set′ low′ todo′ eo eu el et = record {
       some = some;
       rest = rest;
       within = λ i l e. m .within i l (and-out (not (eqb i w)) (bit todo i) (sym (et i l) ∙ e) .1);
@@ -61,21 +60,21 @@ module _ (after : Status → Status) (met : Status → Bool) (k : ℕ) (t : Foun
         unmet true e = sym e
         unmet false e = refl
 
-        some : (v : Status) → In (bitOr o set) v → (u : Status) × In (t .set) u × (after u ≡ v)
-        some v e = elim (or-out (bit o (index v)) (bit set (index v)) (sym (bit-or o set (index v)) ∙ e)) [
+        some : (v : Status) → In set′ v → (u : Status) × In (t .set) u × (after u ≡ v)
+        some v e = elim (in-union eu v .0 e) [
           | inl p ↦ (numbered w, here, index-one _ v (leaf (numbered w) (index-numbered w h) .0 ∙ sym (eqb-true _ _ (sym (eo (index v) (index-below v)) ∙ p))))
           | inr p ↦ m .some v p
         ]
 
-        rest : (u : Status) → In (t .set) u → In todo′ u ⊎ (In (bitOr o set) (after u) × (met u ≡ false → low′ ≤ k))
+        rest : (u : Status) → In (t .set) u → In todo′ u ⊎ (In set′ (after u) × (met u ≡ false → low′ ≤ k))
         rest u e = elim (m .rest u e) [
           | inl p ↦ go (eqb (index u) w) refl p
-          | inr p ↦ inr (bit-or o set (index (after u)) ∙ or-right (bit o (index (after u))) (bit set (index (after u))) (p .0), λ q. let l = p .1 q in omega (arith, el .0))
+          | inr p ↦ inr (in-union eu (after u) .1 (inr (p .0)), λ q. let l = p .1 q in omega (arith, el .0))
         ]
           where
-            go : (c : Bool) → eqb (index u) w ≡ c → In todo u → In todo′ u ⊎ (In (bitOr o set) (after u) × (met u ≡ false → low′ ≤ k))
+            go : (c : Bool) → eqb (index u) w ≡ c → In todo u → In todo′ u ⊎ (In set′ (after u) × (met u ≡ false → low′ ≤ k))
             go true q p = let f = leaf u (eqb-true (index u) w q) in inr (
-              bit-or o set (index (after u)) ∙ or-left (bit o (index (after u))) (bit set (index (after u))) (eo (index (after u)) (index-below (after u)) ∙ eq-eqb _ a (f .0)),
+              in-union eu (after u) .1 (inl (eo (index (after u)) (index-below (after u)) ∙ eq-eqb _ a (f .0))),
               λ z. el .2 (sym (f .1) ∙ rw z),
             )
             go false q p = inl (et (index u) (index-below u) ∙ rw (q, p))

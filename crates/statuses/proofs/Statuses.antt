@@ -1,13 +1,14 @@
 -- Statuses by their numbers, and a test of all of them.
 use Prim.Native.Nat.{ℕ, zero, suc, _<_}
 use mathlib.Core.Path.{_≡_, refl, sym, _∙_}
+use mathlib.Core.Logic.{_⊎_, inl, inr, _↔_}
 use mathlib.Core.Bool.{Bool, true, false, _&&_, Bool·beq}
 use lib.Dec.{ltb, eqb}
 use borrow.Author.Tests.{ltb-true, eqb-true, eq-eqb}
-use Rattle.model.proofs.Booleans.{and-out}
+use Rattle.model.proofs.Booleans.{or-out, or-left, or-right, and-out}
 use Rattle.model.proofs.Bits.{Bits, equal}
 use Rattle.model.proofs.Status.{Status, width, bits, status-at, alike, alike-true}
-use Rattle.statuses.specs.Inner.Sets.{statuses, index, bit}
+use Rattle.statuses.specs.Inner.Sets.{statuses, index, bit, In, Union}
 use Rattle.statuses.proofs.Tests.{beq-true, all-below-at}
 
 -- whether every value of n bits passes the test
@@ -52,3 +53,10 @@ index-one u v e = alike-true u v (sym (test u v) ∙ eq-eqb (index u) (index v) 
   where
     test : (u v : Status) → eqb (index u) (index v) ≡ alike u v
     test u = all-equal (λ v. eqb (index u) (index v)) (alike u) (all-at (λ u. all λ v. Bool·beq (eqb (index u) (index v)) (alike u v)) refl u)
+
+-- a status of either set
+pub in-union : {r a b : ℕ} → Union r a b → (v : Status) → In r v ↔ (In a v ⊎ In b v)
+in-union {r} {a} {b} u v = (
+  λ e. or-out (bit a (index v)) (bit b (index v)) (sym (u .bits (index v)) ∙ e),
+  elim [ inl e ↦ u .bits (index v) ∙ or-left (bit a (index v)) (bit b (index v)) e | inr e ↦ u .bits (index v) ∙ or-right (bit a (index v)) (bit b (index v)) e ],
+)

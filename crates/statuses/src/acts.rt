@@ -7,12 +7,17 @@ ghost use Rattle.model.proofs.Status.{Status};
 ghost use Rattle.format.specs.Plans.{side-of};
 ghost use Rattle.statuses.specs.Inner.Sets.{statuses, index, In, touched-met, touched-after};
 ghost use Rattle.statuses.specs.Inner.Ran.{Ran};
+use crate::sets::EMPTY;
 use crate::sets::dropped;
 use crate::sets::lowest;
 use crate::sets::only;
+use crate::sets::union;
 
 // Stands for no record.
 pub const NONE: u16 = 65535;
+
+// The status at the start: host copy current, host flag set.
+pub const START: usize = 10;
 
 // The statuses that can be reached, and the lowest record at which the cell can stop, NONE if there is none.
 pub struct Found {
@@ -68,13 +73,13 @@ pub fn acted(t: Found, kind: u8, side: u8, k: u16) -> Found
     requires { ⌜ (1 ≤ kind) × (kind ≤ 5) × (side ≤ 1) × (k < 65535) ⌝ }
     ensures { λ r. ⌜ Ran (λ u v. touched-after kind (side-of side) u ≡ v) (λ u n. (k ≡ n) × (touched-met kind (side-of side) u ≡ false)) (In (t .set)) (t .low) r ⌝ }
 {
-    let mut set: u16 = 0;
+    let mut set = EMPTY;
     let mut low = t.low;
     let mut todo = t.set;
-    while todo != 0 {
+    while todo != EMPTY {
         let w = lowest(todo);
         let s = leaf(kind, side, w);
-        set = only(s.after) | set;
+        set = union(only(s.after), set);
         low = lowered(low, s.stops, k);
         todo = dropped(todo, w);
     }

@@ -1,9 +1,12 @@
-// Sets of statuses, a bit for each. A status is a number below 16: 8 host current, 4 card current, 2 host flag, 1 card flag.
+// Sets of statuses, a bit for each: only this file knows how a set is stored. A status is a number below 16: 8 host current, 4 card current, 2 host flag, 1 card flag.
 ghost use mathlib.Core.Path.{_≡_};
 ghost use mathlib.Core.Bool.{true, false, not, _&&_, _||_};
 ghost use Prim.Native.Nat.{ℕ, _<_};
 ghost use lib.Dec.{eqb};
-ghost use Rattle.statuses.specs.Inner.Sets.{statuses, bit};
+ghost use Rattle.statuses.specs.Inner.Sets.{statuses, bit, Union};
+
+// The set of no status.
+pub const EMPTY: u16 = 0;
 
 // The set of one status.
 pub fn only(w: usize) -> u16
@@ -11,6 +14,13 @@ pub fn only(w: usize) -> u16
     ensures { λ r. ⌜ ((i : ℕ) → i < statuses → bit r i ≡ eqb i w) ⌝ }
 {
     1u16 << w
+}
+
+// The statuses of either set.
+pub fn union(a: u16, b: u16) -> u16
+    ensures { λ r. ⌜ Union r a b ⌝ }
+{
+    a | b
 }
 
 // A status of a set that has one: that with the lowest number.

@@ -183,6 +183,17 @@ pub fn turning(rng: &mut Rng) -> Draft {
     Draft::plain(&arrays, &steps)
 }
 
+/// One loop over a few cells whose records cover some of them each: cells enter
+/// it in the same status and leave it in different ones.
+pub fn many_classes(rng: &mut Rng) -> Draft {
+    let arrays = [rng.between(2, 6) as u16];
+    let mut act = |rng: &mut Rng| any_act(rng, &arrays);
+    let (inside, after) = (rng.between(2, 8), rng.between(1, 4));
+    let mut steps = vec![Step::Loop(block(rng, inside, 3, 35, &mut act))];
+    steps.extend(block(rng, after, 1, 30, &mut act));
+    Draft::plain(&arrays, &steps)
+}
+
 fn one_of_several(rng: &mut Rng, act: &mut dyn FnMut(&mut Rng) -> Raw) -> Vec<Step> {
     let mut others = vec![];
     for _ in 0..rng.between(2, 5) {

@@ -6,7 +6,7 @@ use super::expand::{expansion, expansion_by, given};
 use super::open::Refusal;
 use super::plan::*;
 use super::run::{run_plan, Memories, RunEnd, Tally};
-use std::collections::BTreeSet;
+use std::collections::{BTreeMap, BTreeSet};
 use std::ops::Range;
 
 // ---- Checkers ----
@@ -25,10 +25,21 @@ pub struct Checker {
     pub ends_at_stop: bool,
     /// The highest instead of the lowest cell.
     pub highest_cell: bool,
+    /// What a loop's arm does to a status is found once and kept for all cells.
+    pub keeps_rows: bool,
+}
+
+/// What has been found: the stops, and for a loop's arm and a status the exits.
+#[derive(Default)]
+struct Seen {
+    stops: BTreeSet<Stop>,
+    rows: BTreeMap<(usize, Status), BTreeSet<Status>>,
 }
 
 /// Host current, card current, host flag, card flag.
-type Status = [bool; 4];
+pub type Status = [bool; 4];
+
+const START: Status = [true, false, true, false];
 
 pub fn accepts_all(_: &Plan) -> Option<Stop> {
     None
@@ -40,16 +51,21 @@ pub fn stops_all(_: &Plan) -> Option<Stop> {
 
 impl Checker {
     pub fn check(&self, plan: &Plan) -> Option<Stop> {
-        let mut stops = BTreeSet::new();
+        let mut seen = Seen::default();
         for cell in 0..plan.cells() {
-            let start = BTreeSet::from([[true, false, true, false]]);
-            self.block(plan, cell, 0..plan.records.len(), start, &mut stops);
+            self.block(plan, cell, 0..plan.records.len(), BTreeSet::from([START]), &mut seen);
         }
+        let stops = seen.stops;
         let lowest = *stops.first()?;
         if !self.highest_cell {
             return Some(lowest);
         }
         stops.into_iter().filter(|stop| stop.record == lowest.record).max()
+    }
+
+    /// The statuses in which a cell can be at the plan's end.
+    pub fn exits(&self, plan: &Plan, cell: usize) -> BTreeSet<Status> {
+        self.block(plan, cell, 0..plan.records.len(), BTreeSet::from([START]), &mut Seen::default())
     }
 
     fn block(
@@ -58,7 +74,7 @@ impl Checker {
         cell: usize,
         part: Range<usize>,
         entry: BTreeSet<Status>,
-        stops: &mut BTreeSet<Stop>,
+        seen: &mut Seen,
     ) -> BTreeSet<Status> {
         let mut now = entry;
         let mut r = part.start;
@@ -67,8 +83,8 @@ impl Checker {
             let after = second.end;
             now = match plan.records[r].kind {
                 BRANCH => {
-                    let one = self.block(plan, cell, first, now.clone(), stops);
-                    let two = self.block(plan, cell, second, now, stops);
+                    let one = self.block(plan, cell, first, now.clone(), seen);
+                    let two = self.block(plan, cell, second, now, seen);
                     let both = &one | &two;
                     if self.joins_arms {
                         join(&both)
@@ -76,8 +92,9 @@ impl Checker {
                         both
                     }
                 }
-                LOOP => self.turn(plan, cell, first, now, stops),
-                _ => self.record(plan, cell, r, &now, stops),
+                LOOP if self.keeps_rows => self.turn_by_rows(plan, cell, first, now, seen),
+                LOOP => self.turn(plan, cell, first, now, seen),
+                _ => self.record(plan, cell, r, &now, seen),
             };
             r = after;
         }
@@ -90,12 +107,12 @@ impl Checker {
         cell: usize,
         arm: Range<usize>,
         entry: BTreeSet<Status>,
-        stops: &mut BTreeSet<Stop>,
+        seen: &mut Seen,
     ) -> BTreeSet<Status> {
         let mut known = entry;
         // 16 statuses: more turns than that add nothing.
         for _ in 0..self.turns.unwrap_or(16) {
-            let turned = self.block(plan, cell, arm.clone(), known.clone(), stops);
+            let turned = self.block(plan, cell, arm.clone(), known.clone(), seen);
             let both = &known | &turned;
             let next = if self.joins_arms { join(&both) } else { both };
             if next == known {
@@ -106,13 +123,34 @@ impl Checker {
         known
     }
 
+    fn turn_by_rows(
+        &self,
+        plan: &Plan,
+        cell: usize,
+        arm: Range<usize>,
+        entry: BTreeSet<Status>,
+        seen: &mut Seen,
+    ) -> BTreeSet<Status> {
+        let mut todo: Vec<Status> = entry.iter().copied().collect();
+        let mut known = entry;
+        while let Some(status) = todo.pop() {
+            let place = (arm.start, status);
+            if !seen.rows.contains_key(&place) {
+                let exits = self.block(plan, cell, arm.clone(), BTreeSet::from([status]), seen);
+                seen.rows.insert(place, exits);
+            }
+            todo.extend(seen.rows[&place].iter().filter(|&&exit| known.insert(exit)));
+        }
+        known
+    }
+
     fn record(
         &self,
         plan: &Plan,
         cell: usize,
         r: usize,
         entry: &BTreeSet<Status>,
-        stops: &mut BTreeSet<Stop>,
+        seen: &mut Seen,
     ) -> BTreeSet<Status> {
         let x = &plan.records[r];
         let covers = plan.covered(x).contains(&cell);
@@ -124,7 +162,7 @@ impl Checker {
         for &status in entry {
             let (met, after) = self.effect(x, status);
             if !met {
-                stops.insert(Stop { record: r, cell });
+                seen.stops.insert(Stop { record: r, cell });
             }
             if met || !self.ends_at_stop {
                 exits.insert(after);

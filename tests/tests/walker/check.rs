@@ -27,6 +27,18 @@ fn an_explicit_copy_sets_no_flag() {
     assert_eq!(check::summary(&plan), None);
 }
 
+/// An arm whose sets of statuses repeat every second turn: who leaves so many
+/// turns of it early must look at how many are left.
+#[test]
+fn an_arm_of_period_two() {
+    let arm = Step::Branch(vec![need(HOST, 0), mark(CARD, 0)], vec![need(CARD, 0), mark(HOST, 0)]);
+    let after = |turns| Checker::default().exits(&plan_of(&one_cell(&vec![arm.clone(); turns])), 0);
+    for turns in 4..12 {
+        assert_eq!(after(turns), after(turns + 2));
+        assert_ne!(after(turns), after(turns + 1));
+    }
+}
+
 #[test]
 fn check_refuses_a_declared_plan() {
     let file = encode(&declared_draft(&[1], &[], &[]));

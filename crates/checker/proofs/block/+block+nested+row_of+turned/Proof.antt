@@ -31,6 +31,7 @@ use Rattle.checker.proofs.block.exits_of.Reads as exits-of-reads
 use Rattle.checker.proofs.block.packed.Reads as packed-reads
 use Rattle.statuses.proofs.sets.lowest.Reads as lowest-reads
 use Rattle.statuses.proofs.sets.only.Reads as only-reads
+use Rattle.statuses.proofs.sets.union.Reads as union-reads
 use Rattle.statuses.proofs.sets.with.Reads as with-reads
 use Rattle.statuses.proofs.sets.without.Reads as without-reads
 use Rattle.reading.proofs.first_arm.Reads as first-arm-reads
@@ -93,13 +94,13 @@ abbrev block-calls : ℕ → block-lts.Claims
 block-calls t = (record-at-reads.Asked, record-at-reads.Learnt, first-arm-reads.Asked, first-arm-reads.Learnt, second-arm-reads.Asked, second-arm-reads.Learnt, nested-below t, nested.Post, acted-reads.Asked, acted-reads.Learnt)
 
 abbrev nested-calls : ℕ → nested-lts.Claims
-nested-calls t = (block-below t, block.Post, turned-below t, turned.Post)
+nested-calls t = (block-below t, block.Post, union-reads.Asked, union-reads.Learnt, turned-below t, turned.Post)
 
 abbrev row-of-calls : ℕ → row-of-lts.Claims
 row-of-calls t = (exits-of-reads.Asked, exits-of-reads.Learnt, only-reads.Asked, only-reads.Learnt, block-below t, block.Post, packed-reads.Asked, packed-reads.Learnt)
 
 abbrev turned-calls : ℕ → turned-lts.Claims
-turned-calls t = (lowest-reads.Asked, lowest-reads.Learnt, row-of-below t, row-of.Post, with-reads.Asked, with-reads.Learnt, without-reads.Asked, without-reads.Learnt)
+turned-calls t = (lowest-reads.Asked, lowest-reads.Learnt, row-of-below t, row-of.Post, union-reads.Asked, union-reads.Learnt, with-reads.Asked, with-reads.Learnt, without-reads.Asked, without-reads.Learnt)
 
 -- the walk has passed by what leaves the cell alone, up to record r
 passing : (t : ℕ) (c : block-lts.In-loop (block-calls t) (block-at t) block.Post block-Inv-loop block-μ-loop) → Skipped (c .before .before .before .before .before .before .args .plan .now) (cell-at (c .before .before .before .before .before .before .args .plan .now) (c .before .before .before .before .before .before .args .array .0) (c .before .before .before .before .before .before .args .offset)) (c .before .loop .at) (c .before .loop .r) (c .before .before .before .before .before .before .args .end)
@@ -241,11 +242,14 @@ nested-block-requires t c κs =
 nested-block-requires-2 : (t : ℕ) → nested-lts.Need-block-requires-2 (nested-calls t) (nested-at t) nested.Post
 nested-block-requires-2 t c κs = search needs
 
+nested-union-requires : (t : ℕ) → nested-lts.Need-union-requires (nested-calls t) (nested-at t) nested.Post
+nested-union-requires t c κs = search needs
+
 nested-same-length : (t : ℕ) → nested-lts.Need-same-length (nested-calls t) (nested-at t) nested.Post
-nested-same-length t c = c .before .before .before .before .block2 .kept .1 .1 .1 .1 .0 ∙ c .before .before .before .before .before .before .before .before .block .kept .1 .1 .1 .1 .0
+nested-same-length t c = c .before .before .before .block2 .kept .1 .1 .1 .1 .0 ∙ c .before .before .before .before .before .before .before .block .kept .1 .1 .1 .1 .0
 
 nested-returns : (t : ℕ) → nested-lts.Need-returns (nested-calls t) (nested-at t) nested.Post
-nested-returns t c = passed-branch _ _ _ _ _ _ _ _ _ _ _ _ _ _ (c .before .before .before .before .before .before .before .before .before .before .if1 .taken) refl refl refl refl (c .before .before .before .before .before .before .before .before .block .ensures) (c .before .before .before .before .block2 .ensures)
+nested-returns t c = passed-branch _ _ _ _ _ _ _ _ _ _ _ _ _ _ (c .before .before .before .before .before .before .before .before .before .if1 .taken) refl refl (c .union .ensures) refl (c .before .before .before .before .before .before .before .block .ensures) (c .before .before .before .block2 .ensures)
 
 nested-turned-requires : (t : ℕ) → nested-lts.Need-turned-requires (nested-calls t) (nested-at t) nested.Post
 nested-turned-requires t c κs = search needs
@@ -320,10 +324,13 @@ turned-lowest-requires t c κs = search needs
 turned-row-of-requires : (t : ℕ) → turned-lts.Need-row-of-requires (turned-calls t) (turned-at t) turned.Post turned-Inv-loop turned-μ-loop
 turned-row-of-requires t c κs = search needs
 
+turned-union-requires : (t : ℕ) → turned-lts.Need-union-requires (turned-calls t) (turned-at t) turned.Post turned-Inv-loop turned-μ-loop
+turned-union-requires t c κs = search needs
+
 turned-with-requires : (t : ℕ) → turned-lts.Need-with-requires (turned-calls t) (turned-at t) turned.Post turned-Inv-loop turned-μ-loop
 turned-with-requires t c κs =
-    let w = c .before .before .before .before .before .before .lowest in
-    (w .ensures .0, turning-new _ _ _ _ _ _ _ (c .before .before .before .before .before .before .before .before .loop .inv .0) (w .result) (w .ensures .0) (w .ensures .1))
+    let w = c .before .before .before .before .before .lowest in
+    (w .ensures .0, turning-new _ _ _ _ _ _ _ (c .before .before .before .before .before .before .before .loop .inv .0) (w .result) (w .ensures .0) (w .ensures .1))
 
 turned-without-requires : (t : ℕ) → turned-lts.Need-without-requires (turned-calls t) (turned-at t) turned.Post turned-Inv-loop turned-μ-loop
 turned-without-requires t c κs = search needs
@@ -333,9 +340,9 @@ turned-loop-less t c = search needs
 
 turned-loop-again : (t : ℕ) → turned-lts.Need-loop-again (turned-calls t) (turned-at t) turned.Post turned-Inv-loop turned-μ-loop
 turned-loop-again t c =
-    let w = c .before .before .before .before .before .before .before .before .lowest in
-    let r = c .before .before .before .before .before .before .row-of .ensures in
-    (turning-more _ _ _ _ _ _ _ (c .before .before .before .before .before .before .before .before .before .before .loop .inv .0) (w .result) (w .ensures .0) (w .ensures .1) _ _ _ _ (r .ran) refl refl (c .before .with .ensures .1) (c .without .ensures), r .exact, c .before .before .before .before .before .before .row-of .kept .1 .1 .1 .1 .0 ∙ c .before .before .before .before .before .before .before .before .before .before .loop .inv .2)
+    let w = c .before .before .before .before .before .before .before .lowest in
+    let r = c .before .before .before .before .before .row-of .ensures in
+    (turning-more _ _ _ _ _ _ _ (c .before .before .before .before .before .before .before .before .before .loop .inv .0) (w .result) (w .ensures .0) (w .ensures .1) _ _ _ _ (r .ran) (c .before .before .union .ensures) refl (c .before .with .ensures .1) (c .without .ensures), r .exact, c .before .before .before .before .before .row-of .kept .1 .1 .1 .1 .0 ∙ c .before .before .before .before .before .before .before .before .before .loop .inv .2)
 
 turned-same-length : (t : ℕ) → turned-lts.Need-same-length (turned-calls t) (turned-at t) turned.Post turned-Inv-loop turned-μ-loop
 turned-same-length t c = c .before .loop .inv .2
@@ -378,6 +385,7 @@ pub +block+nested+row-of+turned-spec : {M : Type 1} → statement M
     (nested-add-block t)
     (nested-block-requires t)
     (nested-block-requires-2 t)
+    (nested-union-requires t)
     (nested-same-length t)
     (nested-returns t)
     (nested-turned-requires t)
@@ -408,6 +416,7 @@ pub +block+nested+row-of+turned-spec : {M : Type 1} → statement M
     (turned-loop-holds t)
     (turned-lowest-requires t)
     (turned-row-of-requires t)
+    (turned-union-requires t)
     (turned-with-requires t)
     (turned-without-requires t)
     (turned-loop-less t)

@@ -28,6 +28,9 @@ lowest-requires c κs = search needs
 row-of-requires : tie.Need-row-of-requires Inv-loop μ-loop
 row-of-requires c κs = search needs
 
+union-requires : tie.Need-union-requires Inv-loop μ-loop
+union-requires c κs = search needs
+
 dropped-requires : tie.Need-dropped-requires Inv-loop μ-loop
 dropped-requires c κs = search needs
 
@@ -36,9 +39,9 @@ loop-less c = search needs
 
 loop-again : tie.Need-loop-again Inv-loop μ-loop
 loop-again c =
-    let w = c .before .before .before .before .before .before .before .lowest in
-    let r = c .before .before .before .before .before .row-of .ensures in
-    (part-more _ _ _ _ _ _ _ (c .before .before .before .before .before .before .before .before .before .loop .inv .0) (w .result) (w .ensures .0) (w .ensures .1) _ _ _ (r .ran) refl refl (c .dropped .ensures .1), r .exact, c .before .before .before .before .before .row-of .kept .1 .1 .1 .1 .0 ∙ c .before .before .before .before .before .before .before .before .before .loop .inv .2)
+    let w = c .before .before .before .before .before .before .lowest in
+    let r = c .before .before .before .before .row-of .ensures in
+    (part-more _ _ _ _ _ _ _ (c .before .before .before .before .before .before .before .before .loop .inv .0) (w .result) (w .ensures .0) (w .ensures .1) _ _ _ (r .ran) (c .before .union .ensures) refl (c .dropped .ensures .1), r .exact, c .before .before .before .before .row-of .kept .1 .1 .1 .1 .0 ∙ c .before .before .before .before .before .before .before .before .loop .inv .2)
 
 same-length : tie.Need-same-length Inv-loop μ-loop
 same-length c = c .before .loop .inv .2
@@ -55,6 +58,7 @@ turn-spec =
     loop-holds
     lowest-requires
     row-of-requires
+    union-requires
     dropped-requires
     loop-less
     loop-again

@@ -25,6 +25,9 @@ leaf-requires c κs = search needs
 only-requires : tie.Need-only-requires Inv-loop μ-loop
 only-requires c κs = search needs
 
+union-requires : tie.Need-union-requires Inv-loop μ-loop
+union-requires c κs = search needs
+
 lowered-requires : tie.Need-lowered-requires Inv-loop μ-loop
 lowered-requires c κs = search needs
 
@@ -36,9 +39,9 @@ loop-less c = search needs
 
 loop-again : tie.Need-loop-again Inv-loop μ-loop
 loop-again c =
-    let w = c .before .before .before .before .lowest in
-    let s = c .before .before .before .leaf in
-    moving-more _ _ _ _ _ _ _ (c .before .before .before .before .before .before .loop .inv) (w .result) (w .ensures .0) (w .ensures .1) _ _ (s .ensures .1) _ _ _ (c .before .before .only .ensures) (c .before .lowered .ensures) (c .dropped .ensures .1)
+    let w = c .before .before .before .before .before .lowest in
+    let s = c .before .before .before .before .leaf in
+    moving-more _ _ _ _ _ _ _ (c .before .before .before .before .before .before .before .loop .inv) (w .result) (w .ensures .0) (w .ensures .1) _ _ (s .ensures .1) _ _ _ _ (c .before .before .before .only .ensures) (c .before .before .union .ensures) (c .before .lowered .ensures) (c .dropped .ensures .1)
 
 returns : tie.Need-returns Inv-loop μ-loop
 returns c = let a = c .before .before in moving-all _ _ _ _ _ _ _ (c .before .loop .inv) (a .pre .3) (c .loop-test .left) _ refl refl
@@ -53,6 +56,7 @@ acted-spec =
     lowest-requires
     leaf-requires
     only-requires
+    union-requires
     lowered-requires
     dropped-requires
     loop-less
