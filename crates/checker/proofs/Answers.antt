@@ -1,14 +1,13 @@
 -- The answer over the cells, one cell at a time, and the answer of a plan file.
-use Prim.Native.Nat.{ℕ, zero, suc, _+_, _-_, _≤_, _<_}
-use mathlib.Core.Path.{_≡_, refl, sym, ap, subst, _∙_}
+use Prim.Native.Nat.{ℕ, suc, _+_, _-_, _≤_, _<_}
+use mathlib.Core.Path.{_≡_, refl, sym, subst, _∙_}
 use mathlib.Core.Logic.{inl, inr, _↔_}
 use mathlib.Core.Bool.{Bool, true, false, cond, true≢false}
-use mathlib.Core.Option.{Option, none, some}
+use mathlib.Core.Option.{none, some}
 use mathlib.Core.List.{List}
-use native.Mathlib.Decide.{decLt}
 use native.Mathlib.Numerals.{add-one}
 use native.Mathlib.Omega.{arith}
-use lib.Dec.{eqb, ltb}
+use lib.Dec.{eqb}
 use lib.ListN.{getD}
 use borrow.Author.Tests.{eqb-true, eqb-false, eq-eqb, ne-eqb, lt-ltb, le-ltb}
 use Rattle.model.specs.declared.Verdict.{Verdict}
@@ -20,7 +19,7 @@ use Rattle.model.specs.Verdicts.{stop}
 use Rattle.model.proofs.Status.{Status}
 use Rattle.model.proofs.Through.{StopsAt}
 use Rattle.model.proofs.Check.{AtMost, Least, with-cell, Fits, fits-cell, fits-alike}
-use Rattle.reading.specs.Bytes.{array-count, arrays-of, record-count, fields-at}
+use Rattle.reading.specs.Bytes.{array-count, arrays-of, record-count}
 use Rattle.format.specs.Plans.{plan-of}
 use Rattle.format.specs.Inner.Walks.{Plain, Starts, block-between}
 use Rattle.reading.proofs.Tables.{first-more, first-rises, all-cells}

@@ -7,8 +7,8 @@ use mathlib.Core.List.{List}
 use native.Nat.{ℕᴺ-discrete}
 use native.Mathlib.Decide.{decLt}
 use native.Mathlib.Omega.{arith}
-use lib.Dec.{eqb, leb, ltb}
-use lib.ListN.{length, length-set, getD, set, replicate, length-replicate, getD-replicate}
+use lib.Dec.{leb, ltb}
+use lib.ListN.{length-set, getD, set, replicate, length-replicate, getD-replicate}
 use lib.Seq.{getD-set-same, getD-set-other}
 use borrow.Author.Tests.{eq-eqb, ne-eqb, leb-true, leb-false, le-leb, lt-leb, ltb-false, lt-ltb, le-ltb}
 use Rattle.model.specs.Sides.{length-of}

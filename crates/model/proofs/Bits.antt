@@ -2,7 +2,7 @@
 use Prim.Native.Nat.{ℕ, zero, suc}
 use mathlib.Core.Path.{_≡_, refl}
 use mathlib.Core.Bool.{Bool, true, false, _&&_, Bool·beq, false≢true}
-use Rattle.model.proofs.Booleans.{and-out, and-in}
+use Rattle.model.proofs.Booleans.{and-out}
 
 abbrev pub Bits : ℕ → Type 0
 Bits zero = Unit {0}
@@ -12,15 +12,6 @@ Bits (suc n) = Bool × Bits n
 unfoldable pub equal : (n : ℕ) → Bits n → Bits n → Bool
 equal zero v w = true
 equal (suc n) v w = Bool·beq (v .0) (w .0) && equal n (v .1) (w .1)
-
-pub equal-same : (n : ℕ) (v : Bits n) → equal n v v ≡ true
-unfolding equal
-equal-same zero v = refl
-equal-same (suc n) v = and-in (Bool·beq (v .0) (v .0)) (equal n (v .1) (v .1)) (go (v .0)) (equal-same n (v .1))
-  where
-    go : (a : Bool) → Bool·beq a a ≡ true
-    go true = refl
-    go false = refl
 
 pub equal-true : (n : ℕ) (v w : Bits n) → equal n v w ≡ true → v ≡ w
 unfolding equal

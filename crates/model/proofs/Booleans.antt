@@ -1,7 +1,7 @@
 -- Facts on tests that the kit has not.
 use Prim.Native.Nat.{ℕ}
 use mathlib.Core.Path.{_≡_, refl, sym, _∙_}
-use mathlib.Core.Logic.{_⊎_, inl, inr, _↔_}
+use mathlib.Core.Logic.{_⊎_, inl, inr}
 use mathlib.Core.Bool.{Bool, true, false, not, _&&_, _||_, false≢true, true≢false}
 use lib.Dec.{eqb}
 use borrow.Author.Tests.{eqb-true, eqb-false, eq-eqb, ne-eqb}
@@ -34,15 +34,6 @@ and-in a b e f = rw (e, f)
 pub and-none : (a b : Bool) → (a && b) ≡ false → (a ≡ false) ⊎ (b ≡ false)
 and-none true b e = inr e
 and-none false b e = inl refl
-
-pub or-iff : {A B : Type 0} (a b : Bool) → ((a ≡ true) ↔ A) → ((b ≡ true) ↔ B) → ((a || b) ≡ true) ↔ (A ⊎ B)
-or-iff a b p q = (
-  λ e. elim (or-out a b e) [ inl f ↦ inl (p .0 f) | inr f ↦ inr (q .0 f) ],
-  elim [ inl x ↦ or-left a b (p .1 x) | inr y ↦ or-right a b (q .1 y) ],
-)
-
-pub and-iff : {A B : Type 0} (a b : Bool) → ((a ≡ true) ↔ A) → ((b ≡ true) ↔ B) → ((a && b) ≡ true) ↔ (A × B)
-and-iff a b p q = (λ e. let f = and-out a b e in (p .0 (f .0), q .0 (f .1)), λ x. and-in a b (p .1 (x .0)) (q .1 (x .1)))
 
 pub false-of : (b : Bool) → (b ≡ true → ⊥) → b ≡ false
 false-of true f = absurd (f refl)

@@ -7,7 +7,7 @@ use lib.Dec.{eqb}
 use borrow.Author.Tests.{eqb-true, eq-eqb}
 use Rattle.model.specs.Sides.{Side, host, card, other, is, Stamp, at, equals, Arrays, array-of, within}
 use Rattle.model.specs.Effects.{Action, read, write, copy, need, mark, State, current, copied, met, effect}
-use Rattle.model.proofs.Bits.{Bits, equal, equal-same, equal-true}
+use Rattle.model.proofs.Bits.{Bits, equal, equal-true}
 use Rattle.model.proofs.Stamps.{Old, Past, old-stale}
 
 pub record Status : Type 0 where
@@ -29,9 +29,6 @@ status-at w = record { host-current = w .0; card-current = w .1 .0; host-flag = 
 -- whether two statuses are the same
 abbrev pub alike : Status → Status → Bool
 alike u v = equal width (bits u) (bits v)
-
-pub alike-same : (u : Status) → alike u u ≡ true
-alike-same u = equal-same width (bits u)
 
 pub alike-true : (u v : Status) → alike u v ≡ true → u ≡ v
 alike-true u v e = ap status-at (equal-true width (bits u) (bits v) e)

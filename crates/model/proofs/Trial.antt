@@ -1,7 +1,7 @@
 -- Small plans decided by trial: one cell followed through a block by lists of statuses, each loop turned once, with a test that another turn would bring no status more.
 -- The twelve cases pass the test; the check of a file does not use it.
-use Prim.Native.Nat.{ℕ, zero, suc, _≤_, _<_}
-use mathlib.Core.Path.{_≡_, refl, sym, subst}
+use Prim.Native.Nat.{ℕ, zero, suc}
+use mathlib.Core.Path.{_≡_, refl, subst}
 use mathlib.Core.Logic.{_⊎_, inl, inr}
 use mathlib.Core.Bool.{Bool, true, false, cond, _&&_, _||_, true≢false, false≢true}
 use mathlib.Core.List.{List, [], _∷_, _++_, map}
@@ -18,7 +18,7 @@ use Rattle.model.specs.Check.{Answers}
 use Rattle.model.proofs.Booleans.{and-out, or-out}
 use Rattle.model.proofs.Status.{Status, status-of, met-in, status-after, alike, alike-true}
 use Rattle.model.proofs.Through.{Star, stay, more, Goes, Stops, StopsAt}
-use Rattle.model.proofs.Check.{AtMost, Least, with-cell, Fits, fits-none, fits-cell, exact}
+use Rattle.model.proofs.Check.{Least, with-cell, Fits, fits-none, fits-cell, exact}
 
 -- the entries of a list
 module _ {A : Type 0} where

@@ -98,17 +98,9 @@ module _ (set : ℕ) (h : 0 < set) (k : set < 65536) where
       past : set / 2 ^ statuses % 2 ≡ 1 → ⊥
       past o = omega arith
 
--- some status is in a set that is not empty
-pub some-bit : (set : ℕ) → 0 < set → set < 65536 → (i : ℕ) × (i < statuses) × (bit set i ≡ true)
-some-bit set h k = (trailingZeros statuses set, lowest-low set h k, lowest-bit set h k)
-
 -- none is in the empty set
 pub no-bit : (set i : ℕ) → set ≡ 0 → bit set i ≡ true → ⊥
 no-bit set i e b = false≢true (sym (rw e (bit-none i)) ∙ b)
-
-pub bit-some : (set i : ℕ) → bit set i ≡ true → 0 < set
-bit-some zero i b = absurd (no-bit zero i refl b)
-bit-some (suc n) i b = omega arith
 
 -- the set of status w, as the code computes it
 abbrev pub one : ℕ → ℕ
