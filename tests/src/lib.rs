@@ -10,3 +10,4 @@ pub mod examples;
 pub mod generate;
 pub mod programs;
 pub mod walker;
+pub mod words;

@@ -5,6 +5,7 @@ use cuplihang_tests::generate::*;
 use cuplihang_tests::programs::text;
 use cuplihang_tests::walker::plan::*;
 use cuplihang_tests::walker::{open, Refusal};
+use cuplihang_tests::words::refusal;
 use std::collections::BTreeMap;
 use std::fmt::Write as _;
 use std::ops::Range;
@@ -88,30 +89,9 @@ fn of_plan(plan: &Plan) -> String {
     text
 }
 
-/// The table's words for 1 to 10, and what the place counts.
-const NUMBERS: [(&str, &str); 10] = [
-    ("under 4 bytes", ""),
-    ("a header byte against its rule", ""),
-    ("file ends inside the contents", ""),
-    ("array length or their total against its rule", "array"),
-    (
-        "body entry: fourth byte not zero, more declarations than records, \
-         declarations in body 0 or total too large",
-        "body",
-    ),
-    ("file length not as the contents say", ""),
-    ("check bytes wrong", ""),
-    ("a field against its rule", "record"),
-    ("kind not allowed there", "record"),
-    ("arm past the end of what holds it, or nested too deep", "record"),
-];
-
-fn of_refusal(refusal: Refusal) -> String {
-    let Refusal { number, place } = refusal;
-    match NUMBERS[number as usize - 1] {
-        (words, "") => format!("not a plan: {number} {words}\n"),
-        (words, counts) => format!("not a plan: {number} {words}, {counts} {place}\n"),
-    }
+fn of_refusal(refused: Refusal) -> String {
+    let Refusal { number, place } = refused;
+    format!("not a plan: {number} {}\n", refusal(number, place))
 }
 
 fn listing(file: &[u8]) -> String {

@@ -6,6 +6,7 @@ use cuplihang_tests::programs::output;
 use cuplihang_tests::walker::expand::expansion;
 use cuplihang_tests::walker::plan::{MAX_CELLS, MAX_CHOICES};
 use cuplihang_tests::walker::{self, Memories, RunEnd, Tally, Verdict};
+use cuplihang_tests::words::refusal;
 use std::collections::BTreeMap;
 use std::ffi::OsStr;
 use std::path::{Path, PathBuf};
@@ -57,7 +58,8 @@ fn report(file: &[u8], choices: &[u8]) -> (String, u16) {
     let counted = format!("reads {}\nwrites {}\nmoved {}\n", tally.reads, tally.writes, tally.moved);
     match end {
         RunEnd::Refused { number, place } => {
-            (format!("ending refused\nnumber {number}\nplace {place}\n"), number)
+            let reason = refusal(number, place);
+            (format!("ending refused\nnumber {number}\nplace {place}\nreason {reason}\n"), number)
         }
         RunEnd::Stopped { record, cell } => {
             (format!("ending stopped\nnumber 21\nrecord {record}\ncell {cell}\n{counted}"), 21)
@@ -250,11 +252,17 @@ fn arguments() {
     let folder = OsStr::new(env!("CARGO_TARGET_TMPDIR"));
     let long = "a".repeat(5000);
     let [missing, empty, long] = ["no such file", "", &long].map(OsStr::new);
-    for wrong in [missing, folder, empty, long] {
-        for (arguments, name) in [([wrong, choices], "plan file: "), ([plan, wrong], "choices file: ")] {
+    let named = folder.to_str().unwrap();
+    for (wrong, why) in [
+        (missing, " no such file: No such file or directory"),
+        (folder, &format!(" {named}: Is a directory")),
+        (empty, ": No such file or directory"),
+        (long, ": File name too long"),
+    ] {
+        for (arguments, name) in [([wrong, choices], "plan file"), ([plan, wrong], "choices file")] {
             let (lines, said) = output("planrun", &arguments, &[]);
-            assert!(lines.is_empty(), "{wrong:?}");
-            assert!(said.starts_with(name) && said.lines().count() == 1, "{wrong:?}: {said}");
+            assert!(lines.is_empty(), "{why}");
+            assert_eq!(said, format!("planrun: {name}{why}\n"));
         }
     }
     for arguments in [&[][..], &[plan], &[plan, choices, plan]] {

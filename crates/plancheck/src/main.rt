@@ -1,8 +1,10 @@
 // Reads a plan file from standard input, judges a declared plan, checks a plain one, and prints one line:
 // the file's kind (0 if it does not open), the answer (0 accepted), place or record, cell.
 ghost use Rattle.plancheck.specs.Lines.{LineOf};
-use console::ROOM;
-use libc::STDOUT_FILENO;
+use console::answers::answer_line;
+use console::input::ROOM;
+use console::input::read_plan;
+use console::page::finish;
 use model::Values;
 
 // What the line says.
@@ -18,13 +20,13 @@ fn line_of(plan: &[u8]) -> Line
     let o = format::open(plan);
     let kind = o.kind;
     if kind == 2 {
-        let checked = checker::check_opened(plan, o);
+        let checked = checker::check(plan);
         return Line {
             kind: kind,
             values: model::values_of(checked, 18),
         };
     }
-    let judged = judge::judge_opened(plan, o);
+    let judged = judge::judge(plan);
     Line {
         kind: kind,
         values: model::values_of(judged, 18),
@@ -33,8 +35,13 @@ fn line_of(plan: &[u8]) -> Line
 
 fn main() {
     let mut room = [0u8; ROOM];
-    let n = console::read_plan(&mut room);
+    let input = read_plan(b"plancheck", &mut room);
+    if input.failed {
+        return;
+    }
+    let n = input.size;
     let line = line_of(&room[..n]);
-    let values = line.values;
-    console::print_answer(STDOUT_FILENO, line.kind, values);
+    let mut page = [0u8; 4096];
+    let at = answer_line(&mut page, 0, line.kind, line.values);
+    finish(b"plancheck", &page, at);
 }

@@ -3,7 +3,11 @@
 ghost use mathlib.Core.Path.{_≡_};
 ghost use Rattle.planexpand.specs.Expansions.{ExpansionOf};
 ghost use Rattle.planexpand.specs.Inner.Sizes.{size-by-contents};
-use console::ROOM;
+use console::answers::answer_line;
+use console::fail;
+use console::input::ROOM;
+use console::input::read_plan;
+use console::page::print;
 use libc::STDERR_FILENO;
 use libc::STDOUT_FILENO;
 use model::Values;
@@ -54,13 +58,21 @@ fn expansion_of(plan: &[u8], out: &mut [u8; LARGEST]) -> Expansion
 
 fn main() {
     let mut room = [0u8; ROOM];
-    let n = console::read_plan(&mut room);
+    let input = read_plan(b"planexpand", &mut room);
+    if input.failed {
+        return;
+    }
+    let n = input.size;
     let mut out = [0u8; LARGEST];
     let e = expansion_of(&room[..n], &mut out);
     let size = e.size;
-    io::write_all(STDOUT_FILENO, &out[..size]);
+    if !io::write_all(STDOUT_FILENO, &out[..size]) {
+        fail(b"planexpand", b"standard output");
+    }
     let values = e.values;
     if values.number != 0 {
-        console::print_answer(STDERR_FILENO, e.kind, values);
+        let mut page = [0u8; 4096];
+        let at = answer_line(&mut page, 0, e.kind, values);
+        print(STDERR_FILENO, &page, at);
     }
 }

@@ -1,10 +1,10 @@
 // The records of a body or of an arm.
 ghost use Prim.Native.Nat.{_+_, _≤_};
 ghost use Rattle.format.specs.Inner.Walks.{Walkable};
-use crate::page::Page;
 use crate::records::else_line;
 use crate::records::empty_line;
 use crate::records::record_line;
+use console::page::Page;
 use reading::fields_at;
 use reading::first_arm;
 use reading::second_arm;
@@ -19,8 +19,7 @@ pub fn block(
     from: usize,
     end: usize,
 ) -> usize
-    requires { ⌜ (at ≤ 4096) × (level ≤ from + 1) × (from ≤ end) × (end ≤ 1024) × Walkable (now plan) from end ⌝ }
-    ensures { λ r. ⌜ r ≤ 4096 ⌝ }
+    requires { ⌜ (level ≤ from + 1) × (from ≤ end) × (end ≤ 1024) × Walkable (now plan) from end ⌝ }
 {
     let mut waiting = at;
     let mut r = from;

@@ -5,17 +5,15 @@ ghost use Rattle.model.specs.declared.Verdict.the-variants.{Accepted};
 ghost use Rattle.format.specs.Opening.{opening};
 ghost use Rattle.contents.specs.Found.{found};
 use crate::block::block;
-use crate::page::Page;
 use crate::page::count;
-use crate::page::numbered;
 use crate::page::range;
-use crate::page::text;
+use console::page::Page;
+use console::page::numbered;
+use console::page::text;
 use contents::Opened;
 
 // The line on the whole.
-fn heading(page: &mut Page, o: Opened) -> usize
-    ensures { λ r. ⌜ r ≤ 4096 ⌝ }
-{
+fn heading(page: &mut Page, o: Opened) -> usize {
     let at = plan_kind(page, o.kind);
     let at = count(page, at, o.arrays as u16, b" array, ", b" arrays, ");
     let at = count(page, at, o.cells, b" cell, ", b" cells, ");
@@ -24,9 +22,7 @@ fn heading(page: &mut Page, o: Opened) -> usize
 }
 
 // Its beginning.
-fn plan_kind(page: &mut Page, kind: u8) -> usize
-    ensures { λ r. ⌜ r ≤ 4096 ⌝ }
-{
+fn plan_kind(page: &mut Page, kind: u8) -> usize {
     if kind == 1 {
         return text(page, 0, b"declared plan, ");
     }
@@ -34,10 +30,7 @@ fn plan_kind(page: &mut Page, kind: u8) -> usize
 }
 
 // The end of the line of an array or a body: the numbers of its cells or records, where it has any.
-fn numbers(page: &mut Page, at: usize, first: u16, end: u16) -> usize
-    requires { ⌜ at ≤ 4096 ⌝ }
-    ensures { λ r. ⌜ r ≤ 4096 ⌝ }
-{
+fn numbers(page: &mut Page, at: usize, first: u16, end: u16) -> usize {
     if first == end {
         return text(page, at, b"\n");
     }
@@ -48,10 +41,9 @@ fn numbers(page: &mut Page, at: usize, first: u16, end: u16) -> usize
 
 // The line of array a, which has the cells from `first` up to `end`.
 fn array_line(page: &mut Page, at: usize, a: u16, first: u16, end: u16) -> usize
-    requires { ⌜ (at ≤ 4096) × (first ≤ end) ⌝ }
-    ensures { λ r. ⌜ r ≤ 4096 ⌝ }
+    requires { ⌜ first ≤ end ⌝ }
 {
-    let at = numbered(page, at, b"array ", a);
+    let at = numbered(page, at, b"array ", a as u64);
     let at = text(page, at, b": ");
     let at = count(page, at, end - first, b" cell", b" cells");
     numbers(page, at, first, end)
@@ -59,10 +51,9 @@ fn array_line(page: &mut Page, at: usize, a: u16, first: u16, end: u16) -> usize
 
 // The line of body b, which has the records from `first` up to `end`.
 fn body_line(page: &mut Page, at: usize, b: u16, first: u16, end: u16) -> usize
-    requires { ⌜ (at ≤ 4096) × (first ≤ end) ⌝ }
-    ensures { λ r. ⌜ r ≤ 4096 ⌝ }
+    requires { ⌜ first ≤ end ⌝ }
 {
-    let at = numbered(page, at, b"body ", b);
+    let at = numbered(page, at, b"body ", b as u64);
     let at = text(page, at, b": ");
     let at = count(page, at, end - first, b" record", b" records");
     numbers(page, at, first, end)
@@ -70,8 +61,7 @@ fn body_line(page: &mut Page, at: usize, b: u16, first: u16, end: u16) -> usize
 
 // A line for each array.
 fn arrays(page: &mut Page, at: usize, plan: &[u8], o: Opened) -> usize
-    requires { ⌜ (at ≤ 4096) × (Accepted ≡ opening (now plan)) × (o ≡ found (now plan)) ⌝ }
-    ensures { λ r. ⌜ r ≤ 4096 ⌝ }
+    requires { ⌜ (Accepted ≡ opening (now plan)) × (o ≡ found (now plan)) ⌝ }
 {
     let arrays = o.arrays as usize;
     let starts = o.array_starts;
@@ -86,8 +76,7 @@ fn arrays(page: &mut Page, at: usize, plan: &[u8], o: Opened) -> usize
 
 // Each body: its line, and the lines of its records.
 fn bodies(page: &mut Page, at: usize, plan: &[u8], o: Opened) -> usize
-    requires { ⌜ (at ≤ 4096) × (Accepted ≡ opening (now plan)) × (o ≡ found (now plan)) ⌝ }
-    ensures { λ r. ⌜ r ≤ 4096 ⌝ }
+    requires { ⌜ (Accepted ≡ opening (now plan)) × (o ≡ found (now plan)) ⌝ }
 {
     let bodies = o.bodies as usize;
     let starts = o.body_starts;
@@ -106,7 +95,6 @@ fn bodies(page: &mut Page, at: usize, plan: &[u8], o: Opened) -> usize
 // The listing of a plan in which opening found o.
 pub fn listed(page: &mut Page, plan: &[u8], o: Opened) -> usize
     requires { ⌜ (Accepted ≡ opening (now plan)) × (o ≡ found (now plan)) ⌝ }
-    ensures { λ r. ⌜ r ≤ 4096 ⌝ }
 {
     let at = heading(page, o);
     let at = arrays(page, at, plan, o);

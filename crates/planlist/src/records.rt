@@ -1,18 +1,14 @@
 // The lines of one record.
-ghost use Prim.Native.Nat.{_≤_};
-use crate::page::Page;
 use crate::page::indent;
-use crate::page::number;
-use crate::page::numbered;
 use crate::page::range;
-use crate::page::text;
+use console::page::Page;
+use console::page::number;
+use console::page::numbered;
+use console::page::text;
 use reading::Fields;
 
 // The name of a kind; a plan that opens has none of the last row.
-fn kind_name(page: &mut Page, at: usize, kind: u8) -> usize
-    requires { ⌜ at ≤ 4096 ⌝ }
-    ensures { λ r. ⌜ r ≤ 4096 ⌝ }
-{
+fn kind_name(page: &mut Page, at: usize, kind: u8) -> usize {
     match kind {
         1 => text(page, at, b" read"),
         2 => text(page, at, b" write"),
@@ -30,33 +26,24 @@ fn kind_name(page: &mut Page, at: usize, kind: u8) -> usize
 }
 
 // Side and array.
-fn on_array(page: &mut Page, at: usize, side: u8, array: u8) -> usize
-    requires { ⌜ at ≤ 4096 ⌝ }
-    ensures { λ r. ⌜ r ≤ 4096 ⌝ }
-{
+fn on_array(page: &mut Page, at: usize, side: u8, array: u8) -> usize {
     if side == 0 {
-        return numbered(page, at, b" host array ", array as u16);
+        return numbered(page, at, b" host array ", array as u64);
     }
-    numbered(page, at, b" card array ", array as u16)
+    numbered(page, at, b" card array ", array as u64)
 }
 
 // Cells p to q - 1 of the array.
-fn cells(page: &mut Page, at: usize, p: u16, q: u16) -> usize
-    requires { ⌜ at ≤ 4096 ⌝ }
-    ensures { λ r. ⌜ r ≤ 4096 ⌝ }
-{
+fn cells(page: &mut Page, at: usize, p: u16, q: u16) -> usize {
     if (p as u32) + 1 == (q as u32) {
-        return numbered(page, at, b" cell ", p);
+        return numbered(page, at, b" cell ", p as u64);
     }
     let at = text(page, at, b" cells ");
     range(page, at, p, q)
 }
 
 // What stands behind the kind.
-fn fields(page: &mut Page, at: usize, x: Fields) -> usize
-    requires { ⌜ at ≤ 4096 ⌝ }
-    ensures { λ r. ⌜ r ≤ 4096 ⌝ }
-{
+fn fields(page: &mut Page, at: usize, x: Fields) -> usize {
     let kind = x.kind;
     match kind {
         1 | 2 | 3 => {
@@ -64,28 +51,22 @@ fn fields(page: &mut Page, at: usize, x: Fields) -> usize
             cells(page, at, x.p, x.q)
         }
         4 | 5 | 16 | 17 | 18 => on_array(page, at, x.side, x.array),
-        8 => numbered(page, at, b" body ", x.p),
+        8 => numbered(page, at, b" body ", x.p as u64),
         0 | 6 | 7 | 9..=15 | 19..=255 => at,
     }
 }
 
 // The line of record r.
-pub fn record_line(page: &mut Page, at: usize, level: usize, r: u16, x: Fields) -> usize
-    requires { ⌜ at ≤ 4096 ⌝ }
-    ensures { λ r. ⌜ r ≤ 4096 ⌝ }
-{
+pub fn record_line(page: &mut Page, at: usize, level: usize, r: u16, x: Fields) -> usize {
     let at = indent(page, at, level);
-    let at = number(page, at, r);
+    let at = number(page, at, r as u64);
     let at = kind_name(page, at, x.kind);
     let at = fields(page, at, x);
     text(page, at, b"\n")
 }
 
 // The line that stands for the first arm of a branch or the arm of a loop, where it is empty.
-pub fn empty_line(page: &mut Page, at: usize, level: usize, x: Fields) -> usize
-    requires { ⌜ at ≤ 4096 ⌝ }
-    ensures { λ r. ⌜ r ≤ 4096 ⌝ }
-{
+pub fn empty_line(page: &mut Page, at: usize, level: usize, x: Fields) -> usize {
     if (6 <= x.kind) & (x.kind <= 7) & (x.p == 0) {
         let at = indent(page, at, level);
         return text(page, at, b"nothing\n");
@@ -94,10 +75,7 @@ pub fn empty_line(page: &mut Page, at: usize, level: usize, x: Fields) -> usize
 }
 
 // The line before a second arm that has records.
-pub fn else_line(page: &mut Page, at: usize, level: usize, records: usize) -> usize
-    requires { ⌜ at ≤ 4096 ⌝ }
-    ensures { λ r. ⌜ r ≤ 4096 ⌝ }
-{
+pub fn else_line(page: &mut Page, at: usize, level: usize, records: usize) -> usize {
     if 0 < records {
         let at = indent(page, at, level);
         return text(page, at, b"else\n");

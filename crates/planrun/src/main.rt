@@ -1,9 +1,12 @@
 // Runs a plain plan on a list of choices: reads both files, whose paths are its arguments, and prints the figures of the run.
 ghost use mathlib.Core.Path.{_≡_};
 ghost use Rattle.io.specs.Counts.{Counts};
-use console::ROOM;
+use console::input::Input;
+use console::input::ROOM;
+use console::input::read_input;
+use console::page::finish;
 use libc::STDERR_FILENO;
-use printing::print;
+use printing::report_lines;
 use report::report_of;
 
 mod printing;
@@ -12,54 +15,48 @@ mod report;
 // One more than the most choices that a run takes, so that a longer file is seen to be longer.
 const CHOICES_ROOM: usize = 65537;
 
-// What reading a file gave: so many bytes, or a failure.
-struct Input {
-    size: usize,
-    failed: bool,
-}
-
-// Reads a file to its end, as far as the room goes. Where the bytes leave room, one more read tells the file's end from a failure.
-fn read_all(fd: i32, room: &mut [u8]) -> Input
-    ensures { λ r. ⌜ Counts (r .size) (now (room .exit)) ⌝ }
-{
-    let size = io::read_full(fd, room);
-    let mut more = [0u8; 1];
-    Input {
-        size: size,
-        failed: size < room.len() && libc::read(fd, &mut more) != 0,
-    }
-}
-
-// Says on standard error why a file cannot be read.
-fn unread(name: &[u8]) -> Input
+// Says on standard error which file cannot be read and why: what it is for, its path as far as it is known, and the system's words.
+fn unread(what: &[u8], path: &[u8]) -> Input
     ensures { λ r. ⌜ r .size ≡ 0 ⌝ }
 {
-    os::fail(name);
+    io::write_all(STDERR_FILENO, b"planrun: ");
+    io::write_all(STDERR_FILENO, what);
+    if path.len() != 0 {
+        io::write_all(STDERR_FILENO, b" ");
+    }
+    os::fail(path);
     Input {
         size: 0,
         failed: true,
     }
 }
 
-// Reads the file that argument i names, or says on standard error why it cannot.
-fn read_argument(i: usize, name: &[u8], room: &mut [u8]) -> Input
+// Reads the file with this path as far as the room goes, or says why it cannot.
+fn read_file(what: &[u8], path: &[u8], room: &mut [u8]) -> Input
+    ensures { λ r. ⌜ Counts (r .size) (now (room .exit)) ⌝ }
+{
+    let fd = os::open_read(path);
+    if fd < 0 {
+        return unread(what, path);
+    }
+    let input = read_input(fd, room);
+    if input.failed {
+        unread(what, path);
+    }
+    libc::close(fd);
+    input
+}
+
+// Reads the file that argument i names.
+fn read_argument(i: usize, what: &[u8], room: &mut [u8]) -> Input
     ensures { λ r. ⌜ Counts (r .size) (now (room .exit)) ⌝ }
 {
     let mut path = io::buffer();
     let n = os::arg(i, &mut path);
     if os::errno() != 0 {
-        return unread(name);
+        return unread(what, b"");
     }
-    let fd = os::open_read(&path[..n]);
-    if fd < 0 {
-        return unread(name);
-    }
-    let input = read_all(fd, room);
-    if input.failed {
-        os::fail(name);
-    }
-    libc::close(fd);
-    input
+    read_file(what, &path[..n], room)
 }
 
 fn main() {
@@ -79,5 +76,7 @@ fn main() {
     }
     let n = first.size;
     let m = second.size;
-    print(report_of(&plan[..n], &choices[..m]));
+    let mut page = [0u8; 4096];
+    let at = report_lines(&mut page, report_of(&plan[..n], &choices[..m]));
+    finish(b"planrun", &page, at);
 }

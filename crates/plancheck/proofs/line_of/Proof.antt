@@ -8,30 +8,30 @@ use Rattle.plancheck.proofs.line_of.Tie as tie
 open-requires : tie.Need-open-requires
 open-requires c κs = search needs
 
-check-opened-requires : tie.Need-check-opened-requires
-check-opened-requires c κs = search needs
+check-requires : tie.Need-check-requires
+check-requires c κs = search needs
 
 values-of-requires : tie.Need-values-of-requires
 values-of-requires c κs = search needs
 
 returns : tie.Need-returns
 returns c = record {
-  answer = c .before .check-opened .result;
-  answers = rw (eq-eqb _ _ (sym (ap (λ o. o .kind) (c .before .before .before .«open» .ensures)) ∙ c .before .before .if1 .taken)) (c .before .check-opened .ensures);
+  answer = c .before .check .result;
+  answers = rw (eq-eqb _ _ (sym (ap (λ o. o .kind) (c .before .before .before .«open» .ensures)) ∙ c .before .before .if1 .taken)) (c .before .check .ensures);
   kind = ap (λ o. o .kind) (c .before .before .before .«open» .ensures);
   values = c .values-of .ensures;
 }
 
-judge-opened-requires : tie.Need-judge-opened-requires
-judge-opened-requires c κs = search needs
+judge-requires : tie.Need-judge-requires
+judge-requires c κs = search needs
 
 values-of-requires-2 : tie.Need-values-of-requires-2
 values-of-requires-2 c κs = search needs
 
 returns-2 : tie.Need-returns-2
 returns-2 c = record {
-  answer = c .before .judge-opened .result;
-  answers = rw (ne-eqb _ _ (λ e. c .before .before .if1 .left (ap (λ o. o .kind) (c .before .before .before .«open» .ensures) ∙ e))) (c .before .judge-opened .ensures);
+  answer = c .before .judge .result;
+  answers = rw (ne-eqb _ _ (λ e. c .before .before .if1 .left (ap (λ o. o .kind) (c .before .before .before .«open» .ensures) ∙ e))) (c .before .judge .ensures);
   kind = ap (λ o. o .kind) (c .before .before .before .«open» .ensures);
   values = c .values-of2 .ensures;
 }
@@ -41,9 +41,9 @@ line-of-spec =
     tie.close
     (tie.spec
     open-requires
-    check-opened-requires
+    check-requires
     values-of-requires
     returns
-    judge-opened-requires
+    judge-requires
     values-of-requires-2
     returns-2)

@@ -1,4 +1,4 @@
--- `block`: at most a page waits, and the records left can be walked. The measure is the number of records.
+-- `block`: the records left can be walked. The measure is the number of records.
 use borrow.Author.Needs.{needs}
 use Prim.Native.Nat.{ℕ, _-_, _≤_, _<_}
 use native.Mathlib.Omega.{arith}
@@ -29,7 +29,7 @@ abbrev block-below : ℕ → In 2 block-kinds.ps
 block-below t = and 2 block-kinds.ps (falls 2 block-kinds.ps _<_ μ-block t) block.Pre
 
 abbrev block-Inv-loop : block-lts.InvT-loop
-block-Inv-loop page₀ at plan level from end waiting₀ r₀ page waiting r = (waiting ≤ 4096) × (from ≤ r) × (r ≤ end) × Walkable plan r end
+block-Inv-loop page₀ at plan level from end waiting₀ r₀ page waiting r = (from ≤ r) × (r ≤ end) × Walkable plan r end
 
 abbrev block-μ-loop : block-lts.MeasureT-loop
 block-μ-loop page₀ at plan level from end waiting₀ r₀ page waiting r = end - r
@@ -42,10 +42,10 @@ calls t = (fields-at-reads.Asked, fields-at-reads.Learnt, first-arm-reads.Asked,
 known : (t : ℕ) (c : block-lts.After-second-arm (calls t) (block-at t) block.Post block-Inv-loop block-μ-loop) → Arms (c .before .before .before .before .before .before .args .plan .now) (c .before .before .before .before .loop .r) (c .before .before .before .before .before .before .args .end) (c .before .first-arm .result) (c .second-arm .result)
 known t c =
     let l = c .before .before .before .before .loop in
-    arms (steps _ _ _ (c .before .before .before .loop-test .taken) (l .inv .3) _ (c .before .before .fields-at .ensures)) _ _ (c .before .first-arm .ensures .0) (c .second-arm .ensures .0)
+    arms (steps _ _ _ (c .before .before .before .loop-test .taken) (l .inv .2) _ (c .before .before .fields-at .ensures)) _ _ (c .before .first-arm .ensures .0) (c .second-arm .ensures .0)
 
 block-loop-holds : (t : ℕ) → block-lts.Need-loop-holds (calls t) (block-at t) block.Post block-Inv-loop block-μ-loop
-block-loop-holds t c = (search needs, search needs, search needs, c .before .pre .1 .4)
+block-loop-holds t c = (search needs, search needs, c .before .pre .1 .3)
 
 block-fields-at-requires : (t : ℕ) → block-lts.Need-fields-at-requires (calls t) (block-at t) block.Post block-Inv-loop block-μ-loop
 block-fields-at-requires t c κs = search needs
@@ -84,7 +84,7 @@ block-add-block-2 : (t : ℕ) → block-lts.Need-add-block-2 (calls t) (block-at
 block-add-block-2 t c = search needs
 
 block-block-requires : (t : ℕ) → block-lts.Need-block-requires (calls t) (block-at t) block.Post block-Inv-loop block-μ-loop
-block-block-requires t c κs = let n = known t (c .before .before .before .before .before) in let w = c .before .before .before .before .before .before .before .before .before .before .before .pre in (omega (arith, w .0), (search needs, omega (arith, w .1), omega arith, omega (arith, w .1), n .one))
+block-block-requires t c κs = let n = known t (c .before .before .before .before .before) in let w = c .before .before .before .before .before .before .before .before .before .before .before .pre in (omega (arith, w .0), (omega (arith, w .1), omega arith, omega (arith, w .1), n .one))
 
 block-sub-else-line : (t : ℕ) → block-lts.Need-sub-else-line (calls t) (block-at t) block.Post block-Inv-loop block-μ-loop
 block-sub-else-line t c = search needs
@@ -96,13 +96,13 @@ block-add-block-3 : (t : ℕ) → block-lts.Need-add-block-3 (calls t) (block-at
 block-add-block-3 t c = search needs
 
 block-block-requires-2 : (t : ℕ) → block-lts.Need-block-requires-2 (calls t) (block-at t) block.Post block-Inv-loop block-μ-loop
-block-block-requires-2 t c κs = let n = known t (c .before .before .before .before .before .before .before .before .before) in let w = c .before .before .before .before .before .before .before .before .before .before .before .before .before .before .before .pre in (omega (arith, w .0), (search needs, omega (arith, w .1), omega arith, omega (arith, w .1), n .two))
+block-block-requires-2 t c κs = let n = known t (c .before .before .before .before .before .before .before .before .before) in let w = c .before .before .before .before .before .before .before .before .before .before .before .before .before .before .before .pre in (omega (arith, w .0), (omega (arith, w .1), omega arith, omega (arith, w .1), n .two))
 
 block-loop-less : (t : ℕ) → block-lts.Need-loop-less (calls t) (block-at t) block.Post block-Inv-loop block-μ-loop
 block-loop-less t c = search needs
 
 block-loop-again : (t : ℕ) → block-lts.Need-loop-again (calls t) (block-at t) block.Post block-Inv-loop block-μ-loop
-block-loop-again t c = let n = known t (c .before .before .before .before .before .before .before .before .before .before) in (search needs, omega arith, n .inside, n .rest)
+block-loop-again t c = let n = known t (c .before .before .before .before .before .before .before .before .before .before) in (omega arith, n .inside, n .rest)
 
 block-returns : (t : ℕ) → block-lts.Need-returns (calls t) (block-at t) block.Post block-Inv-loop block-μ-loop
 block-returns t c = search needs

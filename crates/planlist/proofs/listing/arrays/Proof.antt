@@ -1,4 +1,4 @@
--- `arrays`: at most a page waits. The measure is the number of arrays left.
+-- `arrays`: each array in turn. The measure is the number of arrays left.
 use Prim.Native.Nat.{_≤_, _-_}
 use Rattle.planlist.proofs.Found.{Entry, array-at}
 use borrow.Author.Needs.{needs}
@@ -6,7 +6,7 @@ use Rattle.planlist.proofs.listing.arrays.Statement.{statement}
 use Rattle.planlist.proofs.listing.arrays.Tie as tie
 
 abbrev Inv-loop : tie.InvT-loop
-Inv-loop page₀ at plan arrays starts waiting₀ a₀ page waiting a = (a ≤ arrays) × (waiting ≤ 4096)
+Inv-loop page₀ at plan arrays starts waiting₀ a₀ page waiting a = a ≤ arrays
 
 abbrev μ-loop : tie.MeasureT-loop
 μ-loop page₀ at plan arrays starts waiting₀ a₀ page waiting a = arrays - a
@@ -15,7 +15,7 @@ abbrev μ-loop : tie.MeasureT-loop
 entry : (c : tie.After-array-line-arg Inv-loop μ-loop) → Entry (c .before .before .before .before .before .before .args .o .«array_starts») (c .before .before .loop .a)
 entry c =
     let w = c .before .before .before .before .before .before .pre in
-    array-at _ _ (w .1) (w .2) _ (c .before .loop-test .taken)
+    array-at _ _ (w .0) (w .1) _ (c .before .loop-test .taken)
 
 cast-arrays : tie.Need-cast-arrays Inv-loop μ-loop
 cast-arrays c = search needs
@@ -42,7 +42,7 @@ array-read-array-line-2 : tie.Need-array-read-array-line-2 Inv-loop μ-loop
 array-read-array-line-2 c = let n = entry c in search needs
 
 array-line-requires : tie.Need-array-line-requires Inv-loop μ-loop
-array-line-requires c κs = let n = entry c in (search needs, n .rises)
+array-line-requires c κs = let n = entry c in n .rises
 
 add-a : tie.Need-add-a Inv-loop μ-loop
 add-a c = search needs

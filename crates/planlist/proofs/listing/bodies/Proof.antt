@@ -1,4 +1,4 @@
--- `bodies`: at most a page waits. The measure is the number of bodies left.
+-- `bodies`: each body in turn. The measure is the number of bodies left.
 use Prim.Native.Nat.{_≤_, _-_}
 use Rattle.planlist.proofs.Found.{Stands, body-at}
 use borrow.Author.Needs.{needs}
@@ -6,7 +6,7 @@ use Rattle.planlist.proofs.listing.bodies.Statement.{statement}
 use Rattle.planlist.proofs.listing.bodies.Tie as tie
 
 abbrev Inv-loop : tie.InvT-loop
-Inv-loop page₀ at plan bodies starts waiting₀ b₀ page waiting b = (b ≤ bodies) × (waiting ≤ 4096)
+Inv-loop page₀ at plan bodies starts waiting₀ b₀ page waiting b = b ≤ bodies
 
 abbrev μ-loop : tie.MeasureT-loop
 μ-loop page₀ at plan bodies starts waiting₀ b₀ page waiting b = bodies - b
@@ -15,7 +15,7 @@ abbrev μ-loop : tie.MeasureT-loop
 stands : (c : tie.In-loop Inv-loop μ-loop) → Stands (c .before .before .before .before .before .args .plan .now) (c .before .before .before .before .before .args .o .«body_starts») (c .before .loop .b)
 stands c =
     let w = c .before .before .before .before .before .pre in
-    body-at _ _ (w .1) (w .2) _ (c .loop-test .taken)
+    body-at _ _ (w .0) (w .1) _ (c .loop-test .taken)
 
 cast-bodies : tie.Need-cast-bodies Inv-loop μ-loop
 cast-bodies c = search needs
@@ -42,7 +42,7 @@ cast-body-line : tie.Need-cast-body-line Inv-loop μ-loop
 cast-body-line c = let n = stands (c .before) in search needs
 
 body-line-requires : tie.Need-body-line-requires Inv-loop μ-loop
-body-line-requires c κs = let n = stands (c .before) in (search needs, n .entry .rises)
+body-line-requires c κs = let n = stands (c .before) in n .entry .rises
 
 cast-block : tie.Need-cast-block Inv-loop μ-loop
 cast-block c = search needs
@@ -51,7 +51,7 @@ cast-block-2 : tie.Need-cast-block-2 Inv-loop μ-loop
 cast-block-2 c = search needs
 
 block-requires : tie.Need-block-requires Inv-loop μ-loop
-block-requires c κs = let n = stands (c .before .before .before) in (search needs, search needs, n .entry .rises, n .few, n .walks)
+block-requires c κs = let n = stands (c .before .before .before) in (search needs, n .entry .rises, n .few, n .walks)
 
 add-b : tie.Need-add-b Inv-loop μ-loop
 add-b c = search needs

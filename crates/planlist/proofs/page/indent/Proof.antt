@@ -1,11 +1,11 @@
--- `indent`: at most a page waits. The measure is the number of levels left.
+-- `indent`: each level in turn. The measure is the number of levels left.
 use Prim.Native.Nat.{_≤_, _-_}
 use borrow.Author.Needs.{needs}
 use Rattle.planlist.proofs.page.indent.Statement.{statement}
 use Rattle.planlist.proofs.page.indent.Tie as tie
 
 abbrev Inv-loop : tie.InvT-loop
-Inv-loop page₀ at level waiting₀ i₀ t6 page waiting i = (i ≤ level) × (waiting ≤ 4096)
+Inv-loop page₀ at level waiting₀ i₀ t6 page waiting i = i ≤ level
 
 abbrev μ-loop : tie.MeasureT-loop
 μ-loop page₀ at level waiting₀ i₀ t6 page waiting i = level - i

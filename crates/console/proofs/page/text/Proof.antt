@@ -1,12 +1,12 @@
--- `text`: at most a page waits. The measure is the number of bytes left.
+-- `text`: each byte in turn. The measure is the number of bytes left.
 use Prim.Native.Nat.{_≤_, _-_}
 use lib.ListN.{length}
 use borrow.Author.Needs.{needs}
-use Rattle.planlist.proofs.page.text.Statement.{statement}
-use Rattle.planlist.proofs.page.text.Tie as tie
+use Rattle.console.proofs.page.text.Statement.{statement}
+use Rattle.console.proofs.page.text.Tie as tie
 
 abbrev Inv-loop : tie.InvT-loop
-Inv-loop page₀ at s waiting₀ i₀ page waiting i = (i ≤ length s) × (waiting ≤ 4096)
+Inv-loop page₀ at s waiting₀ i₀ page waiting i = i ≤ length s
 
 abbrev μ-loop : tie.MeasureT-loop
 μ-loop page₀ at s waiting₀ i₀ page waiting i = length s - i

@@ -1,0 +1,2 @@
+-- The claim of specs/Longer.
+pub mod Longer

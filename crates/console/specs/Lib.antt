@@ -1,0 +1,2 @@
+-- What the programs' reading rests on.
+pub mod Longer
