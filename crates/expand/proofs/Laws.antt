@@ -2,3 +2,4 @@
 pub mod Pieces
 pub mod Files
 pub mod Answers
+pub mod Lengths

@@ -11,6 +11,7 @@ use Rattle.model.specs.Rows.{row, first}
 use Rattle.format.specs.Plans.{declared-plan-of}
 use Rattle.files.specs.Files.{plain-file}
 use Rattle.judge.specs.Judged.{judge-rows}
+use Rattle.expand.specs.declared.Length.{Length}
 
 -- the expansion of the plan that a file is
 abbrev pub expansion-of : List ℕ → Plan
@@ -38,3 +39,17 @@ written f out (Refused number place) = out
 -- the output afterwards
 unfoldable pub expanded : List ℕ → List ℕ → List ℕ
 expanded f out = written f out (expand-answer f out)
+
+-- the answer that an output of any length gets which is long enough: the judge's numbers, then "16 expansion over 1,024 records"
+unfoldable pub length-answer : List ℕ → Verdict
+length-answer f = first (judge-rows f ++ (row (ltb 1024 (size (expansion-of f .body))) 16 0 ∷ []))
+
+-- "the expansion's file": its length, 0 at a refusal
+abbrev pub length-by : List ℕ → Verdict → Length
+length-by f Accepted = record { verdict = Accepted; bytes = length (expansion-file f) }
+length-by f (Stopped r c) = record { verdict = Stopped r c; bytes = 0 }
+length-by f (Refused number place) = record { verdict = Refused number place; bytes = 0 }
+
+-- how long an output the expansion needs, whatever the bytes
+unfoldable pub length-of-expansion : List ℕ → Length
+length-of-expansion f = length-by f (length-answer f)

@@ -4,9 +4,10 @@ ghost use Prim.Native.Nat.{_≤_};
 ghost use lib.ListN.{length};
 ghost use Rattle.reading.specs.Bytes.{records-in};
 ghost use Rattle.judge.specs.Judged.{judged};
+ghost use Rattle.model.specs.Blocks.{size};
 ghost use Rattle.sizes.specs.Inner.Sizes.{DeclaredFile, BodyStarts, Places, place};
 ghost use Rattle.writer.specs.Inner.Pieces.{over};
-ghost use Rattle.expand.specs.Expanded.{expansion-file, expand-answer, expanded};
+ghost use Rattle.expand.specs.Expanded.{expansion-of, expansion-file, expand-answer, expanded, length-of-expansion};
 use model::Verdict;
 use reading::byte;
 use sizes::body_starts;
@@ -66,4 +67,50 @@ pub fn expand(plan: &[u8], out: &mut [u8]) -> Verdict
 {
     let answer = judge::judge(plan);
     expand_judged(plan, out, answer)
+}
+
+// An answer with the length of the expansion's file, where it is accepted.
+pub struct Length {
+    pub verdict: Verdict,
+    pub bytes: u32,
+}
+
+// A refused length.
+fn no_length(v: Verdict) -> Length
+    ensures { λ r. ⌜ r ≡ record { verdict = v; bytes = 0 } ⌝ }
+{
+    Length {
+        verdict: v,
+        bytes: 0,
+    }
+}
+
+// How many records the expansion has.
+fn expansion_records(plan: &[u8]) -> u32
+    requires { ⌜ DeclaredFile (now plan) ⌝ }
+    ensures { λ r. ⌜ r ≡ size (expansion-of (now (plan .entry)) .body) ⌝ }
+{
+    let starts = body_starts(plan);
+    let sizes = pass_sizes(plan, &starts);
+    let end = starts[1] as usize;
+    let places = places(plan, &sizes, end);
+    places[end]
+}
+
+// How long an output the expansion of a plan file of any bytes needs: the answer that it then gets, and where that accepts, the length of its file.
+pub fn expansion_length(plan: &[u8]) -> Length
+    ensures { λ r. ⌜ r ≡ length-of-expansion (now (plan .entry)) ⌝ }
+{
+    let answer = judge::judge(plan);
+    let Verdict::Accepted = answer else {
+        return no_length(answer);
+    };
+    let records = expansion_records(plan);
+    if 1024 < records {
+        return no_length(Verdict::Refused(16, 0));
+    }
+    Length {
+        verdict: Verdict::Accepted,
+        bytes: 4 + 2 * (byte(plan, 1) as u32) + 4 + 8 * records + 2,
+    }
 }

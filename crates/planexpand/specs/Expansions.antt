@@ -1,18 +1,14 @@
 -- What planexpand writes (document 01, 'Judging and expanding').
 use Prim.Native.Nat.{ℕ}
 use mathlib.Core.Path.{_≡_}
-use mathlib.Core.List.{List, [], _∷_, _++_}
+use mathlib.Core.List.{List, []}
 use lib.ListN.{take}
-use lib.Dec.{ltb}
 use Rattle.io.specs.Counts.{Counts}
 use Rattle.model.specs.declared.Verdict.{Verdict}
 use Rattle.model.specs.declared.Verdict.the-variants.{Accepted, Stopped, Refused}
 use Rattle.model.specs.Verdicts.{values-of}
-use Rattle.model.specs.Blocks.{size}
-use Rattle.model.specs.Rows.{row, first}
 use Rattle.format.specs.Opening.{opened}
-use Rattle.judge.specs.Judged.{judge-rows}
-use Rattle.expand.specs.Expanded.{expansion-of, expansion-file, expand-answer, expanded}
+use Rattle.expand.specs.Expanded.{expansion-file, expand-answer, expanded, length-answer}
 use Rattle.planexpand.specs.declared.Expansion.{Expansion}
 
 -- what goes to standard output: the expansion's file, at a refusal nothing
@@ -21,10 +17,6 @@ shown f Accepted = expansion-file f
 shown f (Stopped r c) = []
 shown f (Refused number place) = []
 
--- the judge's numbers, then "16 expansion over 1,024 records"
-unfoldable pub answer-with-room : List ℕ → Verdict
-answer-with-room f = first (judge-rows f ++ (row (ltb 1024 (size (expansion-of f .body))) 16 0 ∷ []))
-
 -- of a plan file f, with the output before and after
 pub record ExpansionOf (f before after : List ℕ) (e : Expansion) : Type 0 where
   -- "kind (0 if not opened)"
@@ -32,7 +24,7 @@ pub record ExpansionOf (f before after : List ℕ) (e : Expansion) : Type 0 wher
   -- the expander's answer, of which a stop is none
   pub values : e .values ≡ values-of 0 (expand-answer f before)
   -- number 17 is never the answer: the output has room for every expansion
-  pub roomy : expand-answer f before ≡ answer-with-room f
+  pub roomy : expand-answer f before ≡ length-answer f
   -- the output is the expander's, and so many bytes of it are written
   pub output : after ≡ expanded f before
   pub size : Counts (e .size) after

@@ -1,3 +1,2 @@
 -- What the program writes.
 pub mod Expansions
-pub mod Inner

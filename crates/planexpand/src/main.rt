@@ -1,8 +1,6 @@
 // Reads a declared plan file from standard input and writes its expansion's file to standard output. At a refusal it writes one line to
 // standard error, as plancheck does: the file's kind (0 if it does not open), the answer's number, place, cell (0).
-ghost use mathlib.Core.Path.{_≡_};
 ghost use Rattle.planexpand.specs.Expansions.{ExpansionOf};
-ghost use Rattle.planexpand.specs.Inner.Sizes.{size-by-contents};
 use console::answers::answer_line;
 use console::fail;
 use console::input::ROOM;
@@ -11,9 +9,6 @@ use console::page::print;
 use libc::STDERR_FILENO;
 use libc::STDOUT_FILENO;
 use model::Values;
-use model::Verdict;
-use reading::entry_at;
-use reading::u16_at;
 
 // The largest expansion's file: 32 arrays, 1,024 records.
 const LARGEST: usize = 8266;
@@ -25,34 +20,17 @@ struct Expansion {
     size: usize,
 }
 
-// How long the file of a plain plan is that stands at the front of the output, by its contents.
-fn file_size(out: &[u8]) -> usize
-    ensures { λ r. ⌜ r ≡ size-by-contents (now (out .entry)) ⌝ }
-{
-    let entry = entry_at(out, 0);
-    entry + 4 + 8 * (u16_at(out, entry) as usize) + 2
-}
-
 // Expands a plan file of any bytes into an output that has room for every expansion.
 fn expansion_of(plan: &[u8], out: &mut [u8; LARGEST]) -> Expansion
     ensures { λ r. ⌜ ExpansionOf (now (plan .entry)) (now (out .entry)) (now (out .exit)) r ⌝ }
 {
     let o = format::open(plan);
-    let kind = o.kind;
-    let judged = judge::judge_opened(plan, o);
-    let answer = expand::expand_judged(plan, out, judged);
-    let values = model::values_of(answer, 0);
-    let Verdict::Accepted = answer else {
-        return Expansion {
-            kind: kind,
-            values: values,
-            size: 0,
-        };
-    };
+    let answer = expand::expand(plan, out);
+    let length = expand::expansion_length(plan);
     Expansion {
-        kind: kind,
-        values: values,
-        size: file_size(out),
+        kind: o.kind,
+        values: model::values_of(answer, 0),
+        size: length.bytes as usize,
     }
 }
 

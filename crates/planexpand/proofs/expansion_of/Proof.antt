@@ -1,8 +1,7 @@
 -- `planexpand::expansion_of` gives the expander's answer, its output, and how many bytes of that are the expansion's file.
-use mathlib.Core.Path.{refl, ap}
+use mathlib.Core.Path.{ap}
 use native.Mathlib.Omega.{arith}
-use Rattle.model.proofs.Rows.{turned}
-use Rattle.planexpand.proofs.Rooms.{refusal, written-out}
+use Rattle.planexpand.proofs.Rooms.{roomy, written-out}
 use borrow.Author.Needs.{needs}
 use Rattle.planexpand.proofs.expansion_of.Statement.{statement}
 use Rattle.planexpand.proofs.expansion_of.Tie as tie
@@ -10,40 +9,39 @@ use Rattle.planexpand.proofs.expansion_of.Tie as tie
 open-requires : tie.Need-open-requires
 open-requires c κs = search needs
 
-judge-opened-requires : tie.Need-judge-opened-requires
-judge-opened-requires c κs = search needs
+expand-requires : tie.Need-expand-requires
+expand-requires c κs = search needs
 
-expand-judged-requires : tie.Need-expand-judged-requires
-expand-judged-requires c κs = search needs
+expansion-length-requires : tie.Need-expansion-length-requires
+expansion-length-requires c κs = search needs
 
 values-of-requires : tie.Need-values-of-requires
 values-of-requires c κs = search needs
 
-enum-told : tie.Need-enum-told
-enum-told c = search needs
+cast-t9 : tie.Need-cast-t9
+cast-t9 c = search needs
 
 returns : tie.Need-returns
 returns c =
-    let x = c .before .before .expand-judged .ensures in
-    refusal _ _ _ (omega arith) _ (x .0) (x .1) _ (ap (λ o. o .kind) (c .before .before .before .before .before .«open» .ensures)) (c .before .values-of .ensures) (turned _ (c .match .keys2)) refl
-
-file-size-requires : tie.Need-file-size-requires
-file-size-requires c κs = search needs
-
-returns-2 : tie.Need-returns-2
-returns-2 c =
-    let x = c .before .before .before .before .before .before .expand-judged .ensures in
-    written-out _ _ _ (omega arith) _ (x .0) (x .1) _ (ap (λ o. o .kind) (c .before .before .before .before .before .before .before .before .before .«open» .ensures)) (c .before .before .before .before .before .values-of .ensures) (c .before .before .before .enum-told .given .1) (c .file-size .ensures)
+    let x = c .before .before .before .expand .ensures in
+    let u = c .before .before .before .before .before .before .before in
+    let w = written-out (u .args .plan .now) (u .args .out .now) (omega arith) _ (ap (λ l. l .bytes) (c .before .before .expansion-length .ensures)) in
+    record {
+      kind = ap (λ o. o .kind) (c .before .before .before .before .before .«open» .ensures);
+      values = rw (x .0) at (c .before .values-of .ensures);
+      roomy = roomy _ _ (omega arith);
+      output = x .1;
+      size = rw (x .1) (w .0);
+      writes = rw (x .1) (w .1);
+    }
 
 pub expansion-of-spec : {M : Type 1} → statement M
 expansion-of-spec =
     tie.close
     (tie.spec
     open-requires
-    judge-opened-requires
-    expand-judged-requires
+    expand-requires
+    expansion-length-requires
     values-of-requires
-    enum-told
-    returns
-    file-size-requires
-    returns-2)
+    cast-t9
+    returns)
