@@ -1,17 +1,28 @@
 /* Cuplihang: plans for two memories. The functions of libexports.a.
-   A slice is a pointer and a length. No function asks anything of its caller but valid memory. */
+
+   A slice is a pointer and a length, in elements. What the proofs take for granted of a caller:
+   - A pointer with a length above 0 points to that many elements, aligned for their type (8 bytes for uint64_t), which nobody else writes during the
+     call. With length 0 nothing is read or written through the pointer, which may then be null.
+   - `tally` points to three numbers and `figures` to five; neither may be null.
+   - What a function may write overlaps nothing else that is lent in the same call: `out` and `plan`; `host`, `card`, `latest`, `tally`, `figures` among
+     each other and with `plan` and `choices`. What is only read may overlap.
+   Beyond that no function asks anything: any bytes may be lent as a plan, memories of any lengths, choices of any number. */
 #ifndef CUPLIHANG_H
 #define CUPLIHANG_H
 
 #include <stddef.h>
 #include <stdint.h>
 
+#ifdef __cplusplus
+extern "C" {
+#endif
+
 /* Opens a plan of any bytes. The answer, packed: number (0 accepted) in bits 0 to 15, place or record in 16 to 31,
-   cell in 32 to 47, the file's kind (0 if it does not open) in 48 to 55. */
+   cell in 32 to 47, the file's kind (0 if it does not open) in 48 to 55. All other bits are 0. */
 uint64_t plan_open(const uint8_t *plan, size_t plan_length);
 
-/* Where the records of a body stand in the plan: number (0 accepted) in bits 0 to 15, the place of the body's first byte in 16 to 31,
-   the number of its bytes in 32 to 47. */
+/* Where the records of a body stand in the plan: number (0 accepted; 1 to 10, 25) in bits 0 to 15, the place of the body's first byte in 16 to 31,
+   the number of its bytes in 32 to 47. At a refusal bits 16 to 47 are 0, whatever the number's place is: a refused view is empty. */
 uint64_t plan_body_view(const uint8_t *plan, size_t plan_length, uint64_t body);
 
 /* Checks a plain plan over all its runs: 0 accepted; 18 with the record and the cell where a run may stop; 1 to 11. Packed as by plan_open. */
@@ -24,6 +35,10 @@ uint64_t plan_judge(const uint8_t *plan, size_t plan_length);
    output is as it was. Bytes past the file are not touched. Packed as by plan_open. */
 uint64_t plan_expand(const uint8_t *plan, size_t plan_length, uint8_t *out, size_t out_length);
 
+/* How long an output plan_expand needs for this plan: number (0 accepted; 1 to 16, as by plan_expand with an output that is long enough) in bits 0 to 15,
+   at 0 the length of the expansion's file in 16 to 47 (at most 8,266), at a refusal its place there, the file's kind in 48 to 55. */
+uint64_t plan_expansion_length(const uint8_t *plan, size_t plan_length);
+
 /* Runs a plain plan on lent memories and choices: 0 done; 21 with the record and its lowest unmet cell; 22 with the record whose test finds no choice;
    1 to 11, 19, 20, and then nothing is changed. `tally` points to three numbers: read records, write records, cells moved. `figures` points to five numbers,
    written at done only: choices used, host flags, card flags (bit i is array i), arrays current on the host, on the card. Cells past the plan's are not
@@ -31,8 +46,13 @@ uint64_t plan_expand(const uint8_t *plan, size_t plan_length, uint8_t *out, size
 uint64_t plan_run(const uint8_t *plan, size_t plan_length, uint64_t *host, size_t host_length, uint64_t *card, size_t card_length, uint64_t *latest,
                   size_t latest_length, const uint8_t *choices, size_t choices_length, uint64_t *tally, uint64_t *figures);
 
-/* Which memory the cells `first` up to `end` are viewed in: number (0 accepted, 23, 24) in bits 0 to 15, the side (0 host, 1 card) in 16 to 31. */
+/* Which memory the cells `first` up to `end` are viewed in: number (0 accepted, 23, 24) in bits 0 to 15, the side (0 host, 1 card) in 16 to 31, which
+   is 0 at a refusal. All other bits are 0. */
 uint64_t plan_memory_view(const uint64_t *host, size_t host_length, const uint64_t *card, size_t card_length, const uint64_t *latest,
                           size_t latest_length, uint64_t first, uint64_t end);
+
+#ifdef __cplusplus
+}
+#endif
 
 #endif

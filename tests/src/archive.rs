@@ -76,6 +76,7 @@ mod judging {
     extern "C" {
         fn plan_judge(plan: *const u8, plan_length: usize) -> u64;
         fn plan_expand(plan: *const u8, plan_length: usize, out: *mut u8, out_length: usize) -> u64;
+        fn plan_expansion_length(plan: *const u8, plan_length: usize) -> u64;
     }
 
     pub fn judge(plan: &[u8]) -> Answer {
@@ -85,6 +86,17 @@ mod judging {
     pub fn expand(plan: &[u8], out: &mut [u8]) -> Answer {
         let packed = unsafe { plan_expand(plan.as_ptr(), plan.len(), out.as_mut_ptr(), out.len()) };
         Answer::unpack(packed)
+    }
+
+    /// The length of the expansion's file with the file's kind, or the answer
+    /// that refuses it.
+    pub fn expansion_length(plan: &[u8]) -> Result<(usize, u8), Answer> {
+        let packed = unsafe { plan_expansion_length(plan.as_ptr(), plan.len()) };
+        assert_eq!(packed >> 56, 0, "stray bits in the length {packed:#x}");
+        if packed as u16 == 0 {
+            return Ok(((packed >> 16) as u32 as usize, (packed >> 48) as u8));
+        }
+        Err(Answer::unpack(packed))
     }
 }
 #[cfg(feature = "judge")]

@@ -39,6 +39,20 @@ fn match_expand(file: &[u8], room: usize, counts: &mut Counts) -> Vec<u8> {
     ours
 }
 
+/// The length of the expansion's file, or the answer of an output with room for
+/// every expansion.
+fn match_length(file: &[u8]) -> u16 {
+    let mut scratch = vec![0; 9000];
+    let verdict = walker::expand(file, &mut scratch);
+    let expected = match verdict {
+        Verdict::Accepted => Ok((file_length(&scratch), 1)),
+        _ => Err(packed(verdict, kind_of(file))),
+    };
+    let answer = archive::expansion_length(file);
+    assert_eq!(answer, expected, "{:02X?}", &file[..file.len().min(400)]);
+    answer.map_or_else(|refusal| refusal.number, |_| 0)
+}
+
 /// Outputs far too short, one byte short, exact and longer.
 fn match_rooms(file: &[u8], counts: &mut Counts) -> Option<Vec<u8>> {
     let mut scratch = vec![0; 9000];
@@ -46,6 +60,7 @@ fn match_rooms(file: &[u8], counts: &mut Counts) -> Option<Vec<u8>> {
         Verdict::Accepted => file_length(&scratch),
         _ => 40,
     };
+    match_length(file);
     for room in [0, 1, exact / 2, exact.saturating_sub(1), exact + 1, exact + 100] {
         match_expand(file, room, counts);
     }
@@ -232,4 +247,22 @@ fn near_judges_and_expanders_differ() {
     println!("{differs:?}");
     assert_eq!(differs.len(), judges.len() + expanders.len());
     assert!(differs.values().all(|&count| count > 0));
+}
+
+#[test]
+fn lengths_of_expansions() {
+    let mut rng = Rng::new(79);
+    let mut counts = Counts::new();
+    for round in 0..6_000 {
+        let file = match round % 4 {
+            0 => encode(&sized(&mut rng, 1022 + round % 5)),
+            1 => encode(&some_declared(&mut rng, round)),
+            _ => any_file(&mut rng),
+        };
+        *counts.entry(match_length(&file)).or_default() += 1;
+    }
+    println!("{counts:?}");
+    for number in 0..=16 {
+        assert!(counts.get(&number).is_some_and(|&n| n >= 5), "number {number} is too rare");
+    }
 }

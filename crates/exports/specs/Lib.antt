@@ -1,2 +1,2 @@
--- The answers of the exported functions, packed into one number each.
-pub mod Packed
+-- What the exported functions answer.
+pub mod Exported

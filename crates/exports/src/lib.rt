@@ -1,22 +1,15 @@
 // The functions for C and Rust: include/cuplihang.h declares them.
 ghost use mathlib.Core.Path.{_≡_};
-ghost use Rattle.exports.specs.Packed.{packed, packed-opening, packed-body-view, PackedCheck, packed-judge, packed-expand, tally-of, figures-of, PackedRun, packed-memory-view};
+ghost use Rattle.exports.specs.Exported.{packed-opening, packed-body-view, PackedCheck, packed-judge, packed-expand, packed-expansion-length, PackedRun, packed-memory-view};
+ghost use Rattle.packing.specs.Packed.{tally-of};
 ghost use Rattle.expand.specs.Expanded.{expanded};
 ghost use Rattle.run.specs.Running.{lent};
 use model::Tally;
-use model::Values;
-use model::Verdict;
-use run::End;
-
-// A packed answer: number, place or record, cell, kind.
-fn pack(kind: u8, v: Values) -> u64
-    ensures { λ r. ⌜ r ≡ packed kind v ⌝ }
-{
-    (v.number as u64)
-        + 65536 * (v.place as u64)
-        + 4294967296 * (v.cell as u64)
-        + 281474976710656 * (kind as u64)
-}
+use packing::pack_answer;
+use packing::pack_length;
+use packing::pack_part;
+use packing::pack_view;
+use packing::put_figures;
 
 // Opens a plan.
 #[no_mangle]
@@ -25,8 +18,7 @@ pub extern "C" fn plan_open(plan: &[u8]) -> u64
 {
     let o = format::open(plan);
     let v = o.verdict;
-    let kind = o.kind;
-    pack(kind, model::values_of(v, 0))
+    pack_answer(o.kind, v, 0)
 }
 
 // Where the records of a body stand in the plan.
@@ -34,17 +26,7 @@ pub extern "C" fn plan_open(plan: &[u8]) -> u64
 pub extern "C" fn plan_body_view(plan: &[u8], body: u64) -> u64
     ensures { λ r. ⌜ r ≡ packed-body-view (now (plan .entry)) body ⌝ }
 {
-    let part = format::body_part(plan, body);
-    let v = part.verdict;
-    let values = model::values_of(v, 0);
-    pack(
-        0,
-        Values {
-            number: values.number,
-            place: part.from,
-            cell: part.size,
-        },
-    )
+    pack_part(format::body_part(plan, body))
 }
 
 // Checks a plan.
@@ -55,7 +37,7 @@ pub extern "C" fn plan_check(plan: &[u8]) -> u64
     let o = format::open(plan);
     let kind = o.kind;
     let v = checker::check_opened(plan, o);
-    pack(kind, model::values_of(v, 18))
+    pack_answer(kind, v, 18)
 }
 
 // Judges a plan.
@@ -66,7 +48,7 @@ pub extern "C" fn plan_judge(plan: &[u8]) -> u64
     let o = format::open(plan);
     let kind = o.kind;
     let v = judge::judge_opened(plan, o);
-    pack(kind, model::values_of(v, 0))
+    pack_answer(kind, v, 0)
 }
 
 // Expands a plan into the output.
@@ -79,24 +61,17 @@ pub extern "C" fn plan_expand(plan: &[u8], out: &mut [u8]) -> u64
     let kind = o.kind;
     let judged = judge::judge_opened(plan, o);
     let v = expand::expand_judged(plan, out, judged);
-    pack(kind, model::values_of(v, 0))
+    pack_answer(kind, v, 0)
 }
 
-// The figures of a run that is done.
-fn put_figures(e: End, figures: &mut [u64; 5])
-    ensures { λ _. ⌜ now (figures .exit) ≡ figures-of e (now (figures .entry)) ⌝ }
+// How long an output the expansion needs.
+#[no_mangle]
+pub extern "C" fn plan_expansion_length(plan: &[u8]) -> u64
+    ensures { λ r. ⌜ r ≡ packed-expansion-length (now (plan .entry)) ⌝ }
 {
-    let v = e.verdict;
-    let Verdict::Accepted = v else {
-        return;
-    };
-    *figures = [
-        e.used as u64,
-        e.host_flags as u64,
-        e.card_flags as u64,
-        e.on_host as u64,
-        e.on_card as u64,
-    ];
+    let o = format::open(plan);
+    let length = expand::expansion_length(plan);
+    pack_length(o.kind, length)
 }
 
 // Runs a plan on lent memories.
@@ -125,7 +100,7 @@ pub extern "C" fn plan_run(
     let e = c.end;
     let v = e.verdict;
     put_figures(e, figures);
-    pack(kind, model::values_of(v, 21))
+    pack_answer(kind, v, 21)
 }
 
 // Which side the view of a memory is of.
@@ -139,15 +114,5 @@ pub extern "C" fn plan_memory_view(
 ) -> u64
     ensures { λ r. ⌜ r ≡ packed-memory-view (now (host .entry)) (now (card .entry)) (now (latest .entry)) first end ⌝ }
 {
-    let part = view::memory_side(host, card, latest, first, end);
-    let v = part.verdict;
-    let values = model::values_of(v, 0);
-    pack(
-        0,
-        Values {
-            number: values.number,
-            place: part.side as u16,
-            cell: 0,
-        },
-    )
+    pack_view(view::memory_side(host, card, latest, first, end))
 }

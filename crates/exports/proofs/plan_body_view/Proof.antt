@@ -1,22 +1,18 @@
 -- `exports::plan_body_view` packs the answer and the place of a body.
+use Rattle.exports.specs.Exported.{packed-body-view}
 use borrow.Author.Needs.{needs}
-use Rattle.exports.specs.Packed.{packed-body-view}
 use Rattle.exports.proofs.plan_body_view.Statement.{statement}
 use Rattle.exports.proofs.plan_body_view.Tie as tie
 
 body-part-requires : tie.Need-body-part-requires
 body-part-requires c κs = search needs
 
-values-of-requires : tie.Need-values-of-requires
-values-of-requires c κs = search needs
-
-pack-requires : tie.Need-pack-requires
-pack-requires c κs = search needs
+pack-part-requires : tie.Need-pack-part-requires
+pack-part-requires c κs = search needs
 
 returns : tie.Need-returns
 unfolding packed-body-view
 returns c = cc
 
 pub plan-body-view-spec : {M : Type 1} → statement M
-plan-body-view-spec =
-    tie.close (tie.spec body-part-requires values-of-requires pack-requires returns)
+plan-body-view-spec = tie.close (tie.spec body-part-requires pack-part-requires returns)

@@ -1,6 +1,6 @@
 -- `exports::plan_expand` packs the expander's answer, and the output is the expander's.
+use Rattle.exports.specs.Exported.{packed-expand}
 use borrow.Author.Needs.{needs}
-use Rattle.exports.specs.Packed.{packed-expand}
 use Rattle.exports.proofs.plan_expand.Statement.{statement}
 use Rattle.exports.proofs.plan_expand.Tie as tie
 
@@ -13,18 +13,15 @@ judge-opened-requires c κs = search needs
 expand-judged-requires : tie.Need-expand-judged-requires
 expand-judged-requires c κs = search needs
 
-values-of-requires : tie.Need-values-of-requires
-values-of-requires c κs = search needs
-
-pack-requires : tie.Need-pack-requires
-pack-requires c κs = search needs
+pack-answer-requires : tie.Need-pack-answer-requires
+pack-answer-requires c κs = search needs
 
 same-length : tie.Need-same-length
 same-length c = search needs
 
 returns : tie.Need-returns
 unfolding packed-expand
-returns c = (cc, c .before .before .before .before .expand-judged .ensures .1)
+returns c = (cc, c .before .before .before .expand-judged .ensures .1)
 
 pub plan-expand-spec : {M : Type 1} → statement M
 plan-expand-spec =
@@ -33,7 +30,6 @@ plan-expand-spec =
     open-requires
     judge-opened-requires
     expand-judged-requires
-    values-of-requires
-    pack-requires
+    pack-answer-requires
     same-length
     returns)

@@ -1,7 +1,7 @@
--- `plan_run` packs an answer of the run, and stores its tally and its figures.
-use mathlib.Core.Path.{ap, ap₂, _∙_}
+-- `exports::plan_run` packs an answer of the run, and stores its tally and its figures.
+use mathlib.Core.Path.{ap, _∙_}
+use Rattle.packing.specs.Packed.{packed-answer}
 use borrow.Author.Needs.{needs}
-use Rattle.exports.specs.Packed.{packed}
 use Rattle.exports.proofs.plan_run.Statement.{statement}
 use Rattle.exports.proofs.plan_run.Tie as tie
 
@@ -23,11 +23,8 @@ run-opened-requires c κs = search needs
 put-figures-requires : tie.Need-put-figures-requires
 put-figures-requires c κs = search needs
 
-values-of-requires : tie.Need-values-of-requires
-values-of-requires c κs = search needs
-
-pack-requires : tie.Need-pack-requires
-pack-requires c κs = search needs
+pack-answer-requires : tie.Need-pack-answer-requires
+pack-answer-requires c κs = search needs
 
 same-length : tie.Need-same-length
 same-length c = search needs
@@ -40,8 +37,8 @@ same-length-3 c = search needs
 
 returns : tie.Need-returns
 returns c =
-    let r = c .before .before .before .before .before .before .before .before .before .before .before .before .before .run-opened in
-    record { answer = r .result .end; runs = r .ensures; figures = c .before .before .put-figures .ensures; packs = c .pack .ensures ∙ ap₂ packed (ap (λ x. x .kind) (c .before .before .before .before .before .before .before .before .before .before .before .before .before .before .before .before .before .before .before .before .«open» .ensures)) (c .before .values-of .ensures) }
+    let r = c .before .before .before .before .before .before .before .before .before .before .before .before .run-opened in
+    record { answer = r .result .end; runs = r .ensures; figures = c .before .put-figures .ensures; packs = c .pack-answer .ensures ∙ ap (λ k. packed-answer k 21 (r .result .end .verdict)) (ap (λ x. x .kind) (c .before .before .before .before .before .before .before .before .before .before .before .before .before .before .before .before .before .before .before .«open» .ensures)) }
 
 pub plan-run-spec : {M : Type 1} → statement M
 plan-run-spec =
@@ -53,8 +50,7 @@ plan-run-spec =
     element-copy-out-t23
     run-opened-requires
     put-figures-requires
-    values-of-requires
-    pack-requires
+    pack-answer-requires
     same-length
     same-length-2
     same-length-3

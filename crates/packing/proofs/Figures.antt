@@ -5,7 +5,7 @@ use Prim.Native.Nat.{ℕ}
 use Rattle.model.specs.declared.Verdict.{Verdict}
 use Rattle.model.specs.declared.Verdict.the-variants.{Accepted, Stopped, Refused}
 use Rattle.run.specs.declared.End.{End}
-use Rattle.exports.specs.Packed.{figures-by, figures-of}
+use Rattle.packing.specs.Packed.{figures-by, figures-of}
 
 module _ (l : List ℕ) (e : End) where
   pub figures-put : e .verdict ≡ Accepted → e .used ∷ e .«host_flags» ∷ e .«card_flags» ∷ e .«on_host» ∷ e .«on_card» ∷ [] ≡ figures-of e l

@@ -1,9 +1,9 @@
 -- `put_figures` stores the figures of a run that is done.
 use Rattle.model.proofs.Rows.{turned}
-use Rattle.exports.proofs.Figures.{figures-kept, figures-put}
+use Rattle.packing.proofs.Figures.{figures-kept, figures-put}
 use borrow.Author.Needs.{needs}
-use Rattle.exports.proofs.put_figures.Statement.{statement}
-use Rattle.exports.proofs.put_figures.Tie as tie
+use Rattle.packing.proofs.put_figures.Statement.{statement}
+use Rattle.packing.proofs.put_figures.Tie as tie
 
 enum-told : tie.Need-enum-told
 enum-told c = search needs

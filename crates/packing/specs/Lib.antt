@@ -1,0 +1,2 @@
+-- Answers packed into one number each.
+pub mod Packed
