@@ -2,11 +2,12 @@
 //! that the walker opens.
 
 use cuplihang_tests::generate::*;
-use cuplihang_tests::programs::text;
+use cuplihang_tests::programs::{output, text};
 use cuplihang_tests::walker::plan::*;
 use cuplihang_tests::walker::{open, Refusal};
 use cuplihang_tests::words::refusal;
 use std::collections::BTreeMap;
+use std::ffi::OsStr;
 use std::fmt::Write as _;
 use std::ops::Range;
 
@@ -79,12 +80,18 @@ fn of_plan(plan: &Plan) -> String {
         let count = counted(cells.len(), "cell", "cells");
         writeln!(text, "array {array}: {count}{}", numbers(", ", cells)).unwrap();
     }
-    for (number, body) in plan.bodies.iter().enumerate() {
-        let count = counted(body.count, "record", "records");
-        writeln!(text, "body {number}: {count}{}", numbers(", ", body.first..body.end())).unwrap();
-        for line in block(plan, body.first..body.end(), 1) {
-            writeln!(text, "{line}").unwrap();
-        }
+    for number in 0..plan.bodies.len() {
+        text += &of_body(plan, number);
+    }
+    text
+}
+
+fn of_body(plan: &Plan, number: usize) -> String {
+    let body = &plan.bodies[number];
+    let count = counted(body.count, "record", "records");
+    let mut text = format!("body {number}: {count}{}\n", numbers(", ", body.first..body.end()));
+    for line in block(plan, body.first..body.end(), 1) {
+        writeln!(text, "{line}").unwrap();
     }
     text
 }
@@ -281,4 +288,42 @@ fn inputs_of_any_length() {
         match_listing(&file, &mut counts);
     }
     assert!([1, 2, 6].iter().all(|number| counts.contains_key(number)));
+}
+
+/// One body alone: the body view and its answer.
+#[test]
+fn one_body() {
+    let mut rng = Rng::new(114);
+    let mut counts = Counts::new();
+    for round in 0..400 {
+        let file = match round % 3 {
+            0 => any_file(&mut rng),
+            1 => encode(&accepted_small(&mut rng)),
+            _ => encode(&deep_declared(&mut rng, 8)),
+        };
+        let body = rng.between(0, 6);
+        let (printed, said) = output("planlist", &[OsStr::new(&body.to_string())], &file);
+        assert_eq!(said, "");
+        let (number, place) = match open(&file) {
+            Err(refused) => (refused.number, refused.place),
+            Ok(plan) if body >= plan.bodies.len() => (25, 0),
+            Ok(_) => (0, 0),
+        };
+        let expected = match number {
+            0 => of_body(&open(&file).unwrap(), body),
+            _ => format!("no body of a plan: {number} {}\n", refusal(number, place)),
+        };
+        assert_eq!(String::from_utf8(printed).unwrap(), expected, "body {body}");
+        *counts.entry(number).or_default() += 1;
+    }
+    println!("{counts:?}");
+    for number in [0, 6, 25] {
+        assert!(counts.get(&number).is_some_and(|&n| n >= 5), "number {number} is too rare");
+    }
+    for arguments in [&["a"][..], &[""], &["1", "2"], &["99999999"]] {
+        let arguments: Vec<&OsStr> = arguments.iter().map(OsStr::new).collect();
+        let (printed, said) = output("planlist", &arguments, &CASE_3);
+        assert!(printed.is_empty());
+        assert_eq!(said, "usage: planlist [BODY] < PLAN\n");
+    }
 }

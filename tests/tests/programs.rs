@@ -5,6 +5,7 @@ use cuplihang_tests::generate::*;
 use cuplihang_tests::programs::output;
 use cuplihang_tests::walker::expand::expansion;
 use cuplihang_tests::walker::plan::{MAX_CELLS, MAX_CHOICES};
+use cuplihang_tests::walker::views::memory_view;
 use cuplihang_tests::walker::{self, Memories, RunEnd, Tally, Verdict};
 use cuplihang_tests::words::refusal;
 use std::collections::BTreeMap;
@@ -51,15 +52,20 @@ fn match_expanded(file: &[u8], counts: &mut Counts) -> Vec<u8> {
 
 /// The lines of a run's report, and its number.
 fn report(file: &[u8], choices: &[u8]) -> (String, u16) {
+    viewed(file, choices, None)
+}
+
+/// The same with the view of some cells after the run.
+fn viewed(file: &[u8], choices: &[u8], cells: Option<(u64, u64)>) -> (String, u16) {
     let [mut host, mut card, mut latest] = [(); 3].map(|()| vec![0; MAX_CELLS]);
     let mut memories = Memories { sides: [&mut host, &mut card], latest: &mut latest };
     let mut tally = Tally::default();
     let end = walker::run(file, &mut memories, choices, &mut tally);
     let counted = format!("reads {}\nwrites {}\nmoved {}\n", tally.reads, tally.writes, tally.moved);
-    match end {
+    let (mut lines, number) = match end {
         RunEnd::Refused { number, place } => {
             let reason = refusal(number, place);
-            (format!("ending refused\nnumber {number}\nplace {place}\nreason {reason}\n"), number)
+            return (format!("ending refused\nnumber {number}\nplace {place}\nreason {reason}\n"), number);
         }
         RunEnd::Stopped { record, cell } => {
             (format!("ending stopped\nnumber 21\nrecord {record}\ncell {cell}\n{counted}"), 21)
@@ -74,7 +80,19 @@ fn report(file: &[u8], choices: &[u8]) -> (String, u16) {
             let current = format!("arrays current on host {on_host}\narrays current on card {on_card}\n");
             (format!("ending done\nnumber 0\nchoices used {used}\n{counted}{flags}{current}"), 0)
         }
+    };
+    if let Some((first, end)) = cells {
+        let n = walker::open(file).expect("a plan").cells();
+        match memory_view(&host[..n], &card[..n], &latest[..n], first, end) {
+            Ok(side) => {
+                for cell in first..end {
+                    lines += &format!("cell {cell} stamp {}\n", [&host, &card][side][cell as usize]);
+                }
+            }
+            Err(number) => lines += &format!("view refused: {number} {}\n", refusal(number, 0)),
+        }
     }
+    (lines, number)
 }
 
 /// Two files, for one test alone.
@@ -90,9 +108,18 @@ impl Files {
     }
 
     fn run(&self, file: &[u8], choices: &[u8]) -> String {
+        self.view(file, choices, None)
+    }
+
+    fn view(&self, file: &[u8], choices: &[u8], cells: Option<(u64, u64)>) -> String {
         std::fs::write(&self.plan, file).unwrap();
         std::fs::write(&self.choices, choices).unwrap();
-        let (lines, said) = output("planrun", &[self.plan.as_os_str(), self.choices.as_os_str()], &[]);
+        let mut arguments = vec![self.plan.clone().into_os_string(), self.choices.clone().into_os_string()];
+        if let Some((first, end)) = cells {
+            arguments.extend([first, end].map(|cell| cell.to_string().into()));
+        }
+        let arguments: Vec<&OsStr> = arguments.iter().map(|argument| argument.as_os_str()).collect();
+        let (lines, said) = output("planrun", &arguments, &[]);
         assert_eq!(said, "");
         String::from_utf8(lines).expect("text")
     }
@@ -116,9 +143,10 @@ fn the_examples() {
     let written = match_expanded(&declared, &mut Counts::new());
     assert_eq!(written, example("planexpand/stdout"));
     assert_eq!(written, example("planrun/data/plan"));
-    let lines = Files::new("the_examples").run(&written, &example("planrun/data/choices"));
+    let cells = Some((0, 2));
+    let lines = Files::new("the_examples").view(&written, &example("planrun/data/choices"), cells);
     assert_eq!(lines.as_bytes(), example("planrun/stdout"));
-    assert_eq!(lines, report(&written, &ROUTER_CHOICES).0);
+    assert_eq!(lines, viewed(&written, &ROUTER_CHOICES, cells).0);
 }
 
 #[test]
@@ -204,6 +232,40 @@ fn seeded_runs() {
     assert!(!counts.contains_key(&19));
 }
 
+/// The memory view after a run: a part of whichever side is current, 23 and 24.
+#[test]
+fn views_after_runs() {
+    let mut rng = Rng::new(113);
+    let files = Files::new("views");
+    let mut seen = BTreeMap::<&str, usize>::new();
+    for round in 0..400 {
+        let draft = if round % 2 == 0 {
+            let shape = Shape::small(&mut rng);
+            plain(&mut rng, &shape)
+        } else {
+            // Writes on both sides, after which often neither is wholly current.
+            let written = |_| {
+                let cell = rng.between(0, 5) as u16;
+                write(rng.between(0, 1) as u8, 0, cell, cell + 1)
+            };
+            Draft::plain(&[6], &(0..4).map(written).collect::<Vec<_>>())
+        };
+        let file = encode(&draft);
+        let list = choices(&mut rng, 12, 40);
+        let cells = Some((rng.between(0, 6) as u64, rng.between(0, 8) as u64));
+        let (expected, _) = viewed(&file, &list, cells);
+        assert_eq!(files.view(&file, &list, cells), expected, "{cells:?} {}", shown(&file));
+        let last = expected.lines().last().unwrap();
+        let how =
+            ["cell ", "view refused: 23", "view refused: 24"].into_iter().find(|how| last.starts_with(how));
+        *seen.entry(how.unwrap_or("no view")).or_default() += 1;
+    }
+    println!("{seen:?}");
+    for how in ["cell ", "view refused: 23", "view refused: 24"] {
+        assert!(seen.get(how).is_some_and(|&n| n > 5), "{how} is too rare: {seen:?}");
+    }
+}
+
 /// What planexpand writes, planrun runs, and never to a stop.
 #[test]
 fn expansions_run() {
@@ -268,6 +330,12 @@ fn arguments() {
     for arguments in [&[][..], &[plan], &[plan, choices, plan]] {
         let (lines, said) = output("planrun", arguments, &[]);
         assert!(lines.is_empty());
-        assert_eq!(said, "usage: planrun PLAN CHOICES\n");
+        assert_eq!(said, "usage: planrun PLAN CHOICES [FIRST END]\n");
+    }
+    for cells in [["", "1"], ["0", ""], ["a", "1"], ["0", "-1"], ["0", "1 "], ["0", "99999999"]] {
+        let [first, end] = cells.map(OsStr::new);
+        let (lines, said) = output("planrun", &[plan, choices, first, end], &[]);
+        assert!(lines.is_empty(), "{cells:?}");
+        assert_eq!(said, "usage: planrun PLAN CHOICES [FIRST END]\n");
     }
 }

@@ -65,3 +65,34 @@ pub fn read_plan(program: &[u8], room: &mut [u8]) -> Input
     }
     input
 }
+
+// What `number_of` answers where a text is no number.
+pub const NO_NUMBER: u64 = u64::MAX;
+
+// The value of a digit.
+fn digit(b: u8) -> u64
+    ensures { λ r. ⌜ r ≤ 255 ⌝ }
+{
+    if b < 48 { 0 } else { (b - 48) as u64 }
+}
+
+// The number that a text gives in decimal; NO_NUMBER of an empty text, of one with another character, and of one past ten million.
+pub fn number_of(s: &[u8]) -> u64 {
+    if s.len() == 0 {
+        return NO_NUMBER;
+    }
+    let mut n: u64 = 0;
+    let mut i = 0;
+    while i < s.len() {
+        let b = s[i];
+        if (b < 48) | (57 < b) {
+            return NO_NUMBER;
+        }
+        if 1000000 < n {
+            return NO_NUMBER;
+        }
+        n = n * 10 + digit(b);
+        i += 1;
+    }
+    n
+}

@@ -1,37 +1,57 @@
-// The records of a body or of an arm.
-ghost use Prim.Native.Nat.{_+_, _≤_};
-ghost use Rattle.format.specs.Inner.Walks.{Walkable};
+// The records of a body or of an arm, read from the body's own bytes.
+ghost use mathlib.Core.Path.{_≡_};
+ghost use Prim.Native.Nat.{_+_, _≤_, _<_};
+ghost use Rattle.planlist.specs.Inner.Bodies.{fields-in, Listable};
 use crate::records::else_line;
 use crate::records::empty_line;
 use crate::records::record_line;
 use console::page::Page;
-use reading::fields_at;
+use reading::Fields;
+use reading::byte;
 use reading::first_arm;
 use reading::second_arm;
+use reading::u16_at;
 
-// The records from `from` up to `end`, and below each one those of its arms, one level further in. The first level is 1, and each further one has
-// its branch or loop before `from`.
+// The fields of record i of a body.
+fn record_in(body: &[u8], i: usize) -> Fields
+    requires { ⌜ i < 1024 ⌝ }
+    ensures { λ x. ⌜ x ≡ fields-in (now (body .entry)) i ⌝ }
+{
+    let at = 8 * i;
+    Fields {
+        kind: byte(body, at),
+        side: byte(body, at + 1),
+        array: byte(body, at + 2),
+        zero: byte(body, at + 3),
+        p: u16_at(body, at + 4),
+        q: u16_at(body, at + 6),
+    }
+}
+
+// The records `from` up to `end` of a body whose first record has the number `first`, and below each one those of its arms, one level further in. The
+// first level is 1, and each further one has its branch or loop before `from`.
 pub fn block(
     page: &mut Page,
     at: usize,
-    plan: &[u8],
+    body: &[u8],
+    first: usize,
     level: usize,
     from: usize,
     end: usize,
 ) -> usize
-    requires { ⌜ (level ≤ from + 1) × (from ≤ end) × (end ≤ 1024) × Walkable (now plan) from end ⌝ }
+    requires { ⌜ (level ≤ from + 1) × (from ≤ end) × (first + end ≤ 1024) × Listable (now body) first from end ⌝ }
 {
     let mut waiting = at;
     let mut r = from;
     while r < end {
-        let x = fields_at(plan, r);
+        let x = record_in(body, r);
         let second = r + 1 + first_arm(x);
         let next = second + second_arm(x);
-        waiting = record_line(page, waiting, level, r as u16, x);
+        waiting = record_line(page, waiting, level, (first + r) as u16, x);
         waiting = empty_line(page, waiting, level + 1, x);
-        waiting = block(page, waiting, plan, level + 1, r + 1, second);
+        waiting = block(page, waiting, body, first, level + 1, r + 1, second);
         waiting = else_line(page, waiting, level, next - second);
-        waiting = block(page, waiting, plan, level + 1, second, next);
+        waiting = block(page, waiting, body, first, level + 1, second, next);
         r = next;
     }
     waiting

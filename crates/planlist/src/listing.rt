@@ -1,7 +1,8 @@
 // The listing of a plan that opens: a line on the whole, a line for each array, and each body with its records.
 ghost use mathlib.Core.Path.{_≡_};
-ghost use Prim.Native.Nat.{_≤_};
+ghost use Prim.Native.Nat.{_≤_, _<_};
 ghost use Rattle.model.specs.declared.Verdict.the-variants.{Accepted};
+ghost use Rattle.reading.specs.Bytes.{body-count};
 ghost use Rattle.format.specs.Opening.{opening};
 ghost use Rattle.contents.specs.Found.{found};
 use crate::block::block;
@@ -11,6 +12,7 @@ use console::page::Page;
 use console::page::numbered;
 use console::page::text;
 use contents::Opened;
+use format::body_view;
 
 // The line on the whole.
 fn heading(page: &mut Page, o: Opened) -> usize {
@@ -74,19 +76,27 @@ fn arrays(page: &mut Page, at: usize, plan: &[u8], o: Opened) -> usize
     waiting
 }
 
-// Each body: its line, and the lines of its records.
+// Body b: its line, and the lines of its records.
+pub fn body_lines(page: &mut Page, at: usize, plan: &[u8], o: Opened, b: usize) -> usize
+    requires { ⌜ (Accepted ≡ opening (now plan)) × (o ≡ found (now plan)) × (b < body-count (now plan)) ⌝ }
+{
+    let starts = o.body_starts;
+    let first = starts[b];
+    let end = starts[b + 1];
+    let at = body_line(page, at, b as u16, first, end);
+    let body = body_view(plan, b as u64);
+    block(page, at, body, first as usize, 1, 0, (end - first) as usize)
+}
+
+// Each body.
 fn bodies(page: &mut Page, at: usize, plan: &[u8], o: Opened) -> usize
     requires { ⌜ (Accepted ≡ opening (now plan)) × (o ≡ found (now plan)) ⌝ }
 {
     let bodies = o.bodies as usize;
-    let starts = o.body_starts;
     let mut waiting = at;
     let mut b: usize = 0;
     while b < bodies {
-        let first = starts[b];
-        let end = starts[b + 1];
-        waiting = body_line(page, waiting, b as u16, first, end);
-        waiting = block(page, waiting, plan, 1, first as usize, end as usize);
+        waiting = body_lines(page, waiting, plan, o, b);
         b += 1;
     }
     waiting

@@ -5,7 +5,7 @@ use mathlib.Core.List.{List, [], _∷_, _++_, append-assoc}
 use Prim.Native.Nat.{ℕ, _≤_}
 use native.Mathlib.Omega.{arith}
 use lib.Dec.{ltb, eqb}
-use lib.ListN.{length, length-replicate}
+use lib.ListN.{length}
 use borrow.Author.Tests.{le-ltb}
 use Rattle.model.specs.declared.Verdict.the-variants.{Accepted}
 use Rattle.model.specs.Sides.{cells}
@@ -15,7 +15,7 @@ use Rattle.format.specs.Opening.{open-rows, opening}
 use Rattle.model.proofs.Rows.{passed, unheld}
 use Rattle.format.proofs.Walking.{opened-facts}
 use Rattle.run.specs.Running.{Lent, run-rows}
-use Rattle.planrun.specs.Reports.{own, answer-with-room}
+use Rattle.planrun.specs.Reports.{answer-with-room}
 
 module _ (f choices : List ℕ) (b : Lent) (on-host : 4096 ≤ length (b .host)) (on-card : 4096 ≤ length (b .card)) (on-latest : 4096 ≤ length (b .latest)) where
   abbrev n : ℕ
@@ -30,12 +30,6 @@ module _ (f choices : List ℕ) (b : Lent) (on-host : 4096 ≤ length (b .host))
       let few : n ≤ 4096 = opened-facts f (passed (open-rows f) _ e .0) .bounds .cells-below in
       rw (le-ltb (length (b .host)) n (omega arith), le-ltb (length (b .card)) n (omega arith), le-ltb (length (b .latest)) n (omega arith))
 
-  in-room : first (run-rows f choices b) ≡ answer-with-room f choices
+  pub roomy : first (run-rows f choices b) ≡ answer-with-room f choices
   unfolding run-rows answer-with-room
-  in-room = simp append-assoc at (unheld rows (row (ltb 65536 (length choices)) 20 0 ∷ []) _ 19 0 fits)
-
-pub roomy : (f choices : List ℕ) → first (run-rows f choices own) ≡ answer-with-room f choices
-unfolding own
-roomy f choices =
-    let n : 4096 ≤ length (own .host) = omega (arith, length-replicate {A = ℕ} 4096 0) in
-    in-room f choices own n n n
+  roomy = simp append-assoc at (unheld rows (row (ltb 65536 (length choices)) 20 0 ∷ []) _ 19 0 fits)

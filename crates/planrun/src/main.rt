@@ -1,16 +1,24 @@
-// Runs a plain plan on a list of choices: reads both files, whose paths are its arguments, and prints the figures of the run.
+// Runs a plain plan on a list of choices: reads both files, whose paths are its first arguments, and prints the figures of the run. With two more
+// arguments, a first and an end cell, it prints the memory view of these cells after the run too.
 ghost use mathlib.Core.Path.{_≡_};
 ghost use Rattle.io.specs.Counts.{Counts};
 use console::input::Input;
+use console::input::NO_NUMBER;
 use console::input::ROOM;
+use console::input::number_of;
 use console::input::read_input;
+use console::page::Page;
 use console::page::finish;
 use libc::STDERR_FILENO;
 use printing::report_lines;
+use report::cell_count;
+use report::has_begun;
 use report::report_of;
+use viewing::plan_view_lines;
 
 mod printing;
 mod report;
+mod viewing;
 
 // One more than the most choices that a run takes, so that a longer file is seen to be longer.
 const CHOICES_ROOM: usize = 65537;
@@ -59,9 +67,53 @@ fn read_argument(i: usize, what: &[u8], room: &mut [u8]) -> Input
     read_file(what, &path[..n], room)
 }
 
+// The number that argument i is, where there is such an argument.
+fn number_argument(i: usize) -> u64 {
+    let mut text = io::buffer();
+    let n = os::arg(i, &mut text);
+    number_of(&text[..n])
+}
+
+// The cells to view, from the third and the fourth argument.
+struct Cells {
+    first: u64,
+    end: u64,
+    asked: bool,
+}
+
+fn cells_asked() -> Cells {
+    Cells {
+        first: number_argument(3),
+        end: number_argument(4),
+        asked: os::arg_count() == 5,
+    }
+}
+
+// Whether the arguments are as they should be.
+fn arguments_fit(cells: Cells) -> bool {
+    let numbers = (cells.first != NO_NUMBER) & (cells.end != NO_NUMBER);
+    (os::arg_count() == 3) | (cells.asked & numbers)
+}
+
+// What is printed of a plan, choices, and cells to view.
+fn answer(page: &mut Page, plan: &[u8], choices: &[u8], cells: Cells) -> usize {
+    let mut host = [0u64; 4096];
+    let mut card = [0u64; 4096];
+    let mut latest = [0u64; 4096];
+    let r = report_of(plan, choices, &mut host, &mut card, &mut latest);
+    let begun = has_begun(r);
+    let at = report_lines(page, r);
+    if cells.asked & begun {
+        let n = cell_count(plan);
+        return plan_view_lines(page, at, &host, &card, &latest, n, cells.first, cells.end);
+    }
+    at
+}
+
 fn main() {
-    if os::arg_count() != 3 {
-        io::write_all(STDERR_FILENO, b"usage: planrun PLAN CHOICES\n");
+    let cells = cells_asked();
+    if !arguments_fit(cells) {
+        io::write_all(STDERR_FILENO, b"usage: planrun PLAN CHOICES [FIRST END]\n");
         return;
     }
     let mut plan = [0u8; ROOM];
@@ -77,6 +129,6 @@ fn main() {
     let n = first.size;
     let m = second.size;
     let mut page = [0u8; 4096];
-    let at = report_lines(&mut page, report_of(&plan[..n], &choices[..m]));
+    let at = answer(&mut page, &plan[..n], &choices[..m], cells);
     finish(b"planrun", &page, at);
 }

@@ -1,13 +1,15 @@
 // The run of a plan on the program's own memories, and what is reported of it.
 ghost use mathlib.Core.Path.{_≡_};
-ghost use Rattle.planrun.specs.Reports.{ending-of, ReportOf};
+ghost use Prim.Native.Nat.{_≤_};
+ghost use Rattle.planrun.specs.Reports.{ending-of, nothing, ReportOf};
+ghost use Rattle.run.specs.Running.{lent};
 use model::Tally;
 use model::Values;
 use model::Verdict;
 use run::End;
 
 // No plan has more cells.
-const CELLS: usize = 4096;
+pub type Memory = [u64; 4096];
 
 // How a run ended; a refused one has not begun.
 pub enum Ending {
@@ -42,19 +44,22 @@ fn ending_of(v: Verdict) -> Ending
     }
 }
 
-// Runs a plan file of any bytes on any choices.
-pub fn report_of(plan: &[u8], choices: &[u8]) -> Report
-    ensures { λ r. ⌜ ReportOf (now (plan .entry)) (now (choices .entry)) r ⌝ }
+// Runs a plan file of any bytes on any choices, and leaves the run's memories behind.
+pub fn report_of(
+    plan: &[u8],
+    choices: &[u8],
+    host: &mut Memory,
+    card: &mut Memory,
+    latest: &mut Memory,
+) -> Report
+    ensures { λ r. ⌜ ReportOf (now (plan .entry)) (now (choices .entry)) (lent (now (host .entry)) (now (card .entry)) (now (latest .entry)) nothing) (lent (now (host .exit)) (now (card .exit)) (now (latest .exit)) (r .tally)) r ⌝ }
 {
-    let mut host = [0u64; CELLS];
-    let mut card = [0u64; CELLS];
-    let mut latest = [0u64; CELLS];
     let nothing = Tally {
         reads: 0,
         writes: 0,
         moved: 0,
     };
-    let counted = run::run_counted(plan, &mut host, &mut card, &mut latest, choices, nothing);
+    let counted = run::run_counted(plan, host, card, latest, choices, nothing);
     let end = counted.end;
     let tally = counted.tally;
     let verdict = end.verdict;
@@ -64,4 +69,24 @@ pub fn report_of(plan: &[u8], choices: &[u8]) -> Report
         end: end,
         tally: tally,
     }
+}
+
+// Whether the run has begun.
+pub fn has_begun(r: Report) -> bool {
+    let how = r.ending;
+    match how {
+        Ending::Done => true,
+        Ending::Stopped => true,
+        Ending::Spent => true,
+        Ending::Refused => false,
+    }
+}
+
+// How many cells a plan has, at most as many as the memories; none where it does not open.
+pub fn cell_count(plan: &[u8]) -> usize
+    ensures { λ r. ⌜ r ≤ 4096 ⌝ }
+{
+    let o = format::open(plan);
+    let n = o.cells as usize;
+    if n < 4096 { n } else { 4096 }
 }

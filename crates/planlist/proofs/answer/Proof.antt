@@ -11,6 +11,9 @@ open-requires c κs = search needs
 enum-told : tie.Need-enum-told
 enum-told c = search needs
 
+slice-aggregate-refused : tie.Need-slice-aggregate-refused
+slice-aggregate-refused c = search needs
+
 values-of-requires : tie.Need-values-of-requires
 values-of-requires c κs = search needs
 
@@ -34,6 +37,7 @@ answer-spec =
     (tie.spec
     open-requires
     enum-told
+    slice-aggregate-refused
     values-of-requires
     refused-requires
     returns

@@ -2,15 +2,14 @@
 use borrow.Author.Needs.{needs}
 use Prim.Native.Nat.{ℕ, _-_, _≤_, _<_}
 use native.Mathlib.Omega.{arith}
-use Rattle.format.specs.Inner.Walks.{Walkable}
-use Rattle.format.proofs.Walking.{steps}
-use Rattle.format.proofs.Acts.{Arms, arms}
+use Rattle.planlist.specs.Inner.Bodies.{Listable}
+use Rattle.planlist.proofs.Found.{Parts, parts}
 use borrow.Fn.Kinds.{In}
 use borrow.Fn.PlainCycle.{Measures, is, falls, and}
 use Rattle.planlist.proofs.block.block.Reads as block
 use Rattle.planlist.proofs.block.block.Kinds as block-kinds
 use Rattle.planlist.proofs.block.+block.Lts-block as block-lts
-use Rattle.reading.proofs.fields_at.Reads as fields-at-reads
+use Rattle.planlist.proofs.block.record_in.Reads as record-in-reads
 use Rattle.reading.proofs.first_arm.Reads as first-arm-reads
 use Rattle.reading.proofs.second_arm.Reads as second-arm-reads
 use Rattle.planlist.proofs.records.else_line.Reads as else-line-reads
@@ -20,7 +19,7 @@ use Rattle.planlist.proofs.block.+block.{statement}
 use Rattle.planlist.proofs.block.+block.Tie.{close}
 
 abbrev μ-block : Measures 2 block-kinds.ps ℕ
-μ-block κs a = a .1 .1 .1 .1 .1 .0 - a .1 .1 .1 .1 .0
+μ-block κs a = a .1 .1 .1 .1 .1 .1 .0 - a .1 .1 .1 .1 .1 .0
 
 abbrev block-at : ℕ → In 2 block-kinds.ps
 block-at t = and 2 block-kinds.ps (is 2 block-kinds.ps μ-block t) block.Pre
@@ -29,26 +28,26 @@ abbrev block-below : ℕ → In 2 block-kinds.ps
 block-below t = and 2 block-kinds.ps (falls 2 block-kinds.ps _<_ μ-block t) block.Pre
 
 abbrev block-Inv-loop : block-lts.InvT-loop
-block-Inv-loop page₀ at plan level from end waiting₀ r₀ page waiting r = (from ≤ r) × (r ≤ end) × Walkable plan r end
+block-Inv-loop page₀ at body first level from end waiting₀ r₀ page waiting r = (from ≤ r) × (r ≤ end) × Listable body first r end
 
 abbrev block-μ-loop : block-lts.MeasureT-loop
-block-μ-loop page₀ at plan level from end waiting₀ r₀ page waiting r = end - r
+block-μ-loop page₀ at body first level from end waiting₀ r₀ page waiting r = end - r
 
 -- what each callee asks and gives, this one below t
 abbrev calls : ℕ → block-lts.Claims
-calls t = (fields-at-reads.Asked, fields-at-reads.Learnt, first-arm-reads.Asked, first-arm-reads.Learnt, second-arm-reads.Asked, second-arm-reads.Learnt, record-line-reads.Asked, record-line-reads.Learnt, empty-line-reads.Asked, empty-line-reads.Learnt, block-below t, block.Post, else-line-reads.Asked, else-line-reads.Learnt)
+calls t = (record-in-reads.Asked, record-in-reads.Learnt, first-arm-reads.Asked, first-arm-reads.Learnt, second-arm-reads.Asked, second-arm-reads.Learnt, record-line-reads.Asked, record-line-reads.Learnt, empty-line-reads.Asked, empty-line-reads.Learnt, block-below t, block.Post, else-line-reads.Asked, else-line-reads.Learnt)
 
 -- what is known of record r's arms once they are read
-known : (t : ℕ) (c : block-lts.After-second-arm (calls t) (block-at t) block.Post block-Inv-loop block-μ-loop) → Arms (c .before .before .before .before .before .before .args .plan .now) (c .before .before .before .before .loop .r) (c .before .before .before .before .before .before .args .end) (c .before .first-arm .result) (c .second-arm .result)
+known : (t : ℕ) (c : block-lts.After-second-arm (calls t) (block-at t) block.Post block-Inv-loop block-μ-loop) → Parts (c .before .before .before .before .before .before .args .body .now) (c .before .before .before .before .before .before .args .first) (c .before .before .before .before .loop .r) (c .before .before .before .before .before .before .args .end) (c .before .first-arm .result) (c .second-arm .result)
 known t c =
     let l = c .before .before .before .before .loop in
-    arms (steps _ _ _ (c .before .before .before .loop-test .taken) (l .inv .2) _ (c .before .before .fields-at .ensures)) _ _ (c .before .first-arm .ensures .0) (c .second-arm .ensures .0)
+    parts (l .inv .2) (c .before .before .before .loop-test .taken) (c .before .before .record-in .ensures) _ _ (c .before .first-arm .ensures .0) (c .second-arm .ensures .0)
 
 block-loop-holds : (t : ℕ) → block-lts.Need-loop-holds (calls t) (block-at t) block.Post block-Inv-loop block-μ-loop
 block-loop-holds t c = (search needs, search needs, c .before .pre .1 .3)
 
-block-fields-at-requires : (t : ℕ) → block-lts.Need-fields-at-requires (calls t) (block-at t) block.Post block-Inv-loop block-μ-loop
-block-fields-at-requires t c κs = search needs
+block-record-in-requires : (t : ℕ) → block-lts.Need-record-in-requires (calls t) (block-at t) block.Post block-Inv-loop block-μ-loop
+block-record-in-requires t c κs = search needs
 
 block-add-second : (t : ℕ) → block-lts.Need-add-second (calls t) (block-at t) block.Post block-Inv-loop block-μ-loop
 block-add-second t c = search needs
@@ -64,6 +63,9 @@ block-second-arm-requires t c κs = search needs
 
 block-add-next : (t : ℕ) → block-lts.Need-add-next (calls t) (block-at t) block.Post block-Inv-loop block-μ-loop
 block-add-next t c = search needs
+
+block-add-record-line : (t : ℕ) → block-lts.Need-add-record-line (calls t) (block-at t) block.Post block-Inv-loop block-μ-loop
+block-add-record-line t c = search needs
 
 block-cast-record-line : (t : ℕ) → block-lts.Need-cast-record-line (calls t) (block-at t) block.Post block-Inv-loop block-μ-loop
 block-cast-record-line t c = search needs
@@ -114,12 +116,13 @@ pub +block-spec : {M : Type 1} → statement M
     block-Inv-loop
     block-μ-loop
     (block-loop-holds t)
-    (block-fields-at-requires t)
+    (block-record-in-requires t)
     (block-add-second t)
     (block-first-arm-requires t)
     (block-add-second-2 t)
     (block-second-arm-requires t)
     (block-add-next t)
+    (block-add-record-line t)
     (block-cast-record-line t)
     (block-record-line-requires t)
     (block-add-empty-line t)

@@ -1,0 +1,63 @@
+-- `record_in` reads the fields from the body's bytes.
+use Rattle.planlist.specs.Inner.Bodies.{fields-in}
+use borrow.Author.Needs.{needs}
+use Rattle.planlist.proofs.block.record_in.Statement.{statement}
+use Rattle.planlist.proofs.block.record_in.Tie as tie
+
+mul-at : tie.Need-mul-at
+mul-at c = search needs
+
+byte-requires : tie.Need-byte-requires
+byte-requires c κs = search needs
+
+add-byte : tie.Need-add-byte
+add-byte c = search needs
+
+byte-requires-2 : tie.Need-byte-requires-2
+byte-requires-2 c κs = search needs
+
+add-byte-2 : tie.Need-add-byte-2
+add-byte-2 c = search needs
+
+byte-requires-3 : tie.Need-byte-requires-3
+byte-requires-3 c κs = search needs
+
+add-byte-3 : tie.Need-add-byte-3
+add-byte-3 c = search needs
+
+byte-requires-4 : tie.Need-byte-requires-4
+byte-requires-4 c κs = search needs
+
+add-u16-at : tie.Need-add-u16-at
+add-u16-at c = search needs
+
+u16-at-requires : tie.Need-u16-at-requires
+u16-at-requires c κs = search needs
+
+add-u16-at-2 : tie.Need-add-u16-at-2
+add-u16-at-2 c = search needs
+
+u16-at-requires-2 : tie.Need-u16-at-requires-2
+u16-at-requires-2 c κs = search needs
+
+returns : tie.Need-returns
+unfolding fields-in
+returns c = cc
+
+pub record-in-spec : {M : Type 1} → statement M
+record-in-spec =
+    tie.close
+    (tie.spec
+    mul-at
+    byte-requires
+    add-byte
+    byte-requires-2
+    add-byte-2
+    byte-requires-3
+    add-byte-3
+    byte-requires-4
+    add-u16-at
+    u16-at-requires
+    add-u16-at-2
+    u16-at-requires-2
+    returns)

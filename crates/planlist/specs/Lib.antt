@@ -1,0 +1,2 @@
+-- What the listing's functions ask of each other.
+pub mod Inner
