@@ -1,9 +1,9 @@
--- One step of the runner is at most one step of the run: the end of an arm, a branch, a test of a loop, a record.
+-- One step of the machine is one step of the definition of a run: a record, a branch, a test of a loop, or the end.
 use mathlib.Core.Path.{_≡_, refl, sym, ap, _∙_}
 use mathlib.Core.Bool.{Bool, true, false, cond, not, _&&_}
 use mathlib.Core.List.{List, [], _∷_}
 use mathlib.Core.Option.{none, some}
-use Prim.Native.Nat.{ℕ, zero, suc, _+_, _≤_, _<_}
+use Prim.Native.Nat.{ℕ, suc, _+_, _≤_, _<_}
 use native.Mathlib.Numerals.{add-one}
 use native.Nat.{ℕᴺ-discrete}
 use native.Mathlib.Omega.{arith}
@@ -17,13 +17,14 @@ use Rattle.model.specs.declared.Verdict.the-variants.{Accepted, Stopped, Refuse
 use Rattle.model.specs.Sides.{Arrays, cells, first-of, host}
 use Rattle.model.specs.Effects.{effect}
 use Rattle.model.specs.Blocks.{Block, _then_}
-use Rattle.model.specs.Runs.{Config, Step, step, lowest-unmet, onward, tally}
+use Rattle.model.specs.declared.Tally.{Tally}
+use Rattle.model.specs.Runs.{Config, Ending, finished, stopped, out-of-choices, Step, step, lowest-unmet, onward, tally}
 use Rattle.model.proofs.Runs.{config, event}
 use Rattle.reading.specs.declared.Fields.{Fields}
-use Rattle.reading.specs.Bytes.{kind-of, arrays-of, record-count, fields-at, between, first-arm, second-arm}
+use Rattle.reading.specs.Bytes.{kind-of, array-count, arrays-of, record-count, fields-at, between, first-arm, second-arm}
 use Rattle.records.specs.Records.{fields-fit, deepest}
 use Rattle.format.specs.Plans.{action-of, plan-of}
-use Rattle.format.specs.Inner.Walks.{Plain, Walkable, block-between}
+use Rattle.format.specs.Inner.Walks.{Plain, Starts, Walkable, block-between}
 use Rattle.reading.proofs.Ranges.{in-range}
 use Rattle.format.proofs.Walking.{Parts, good-parts, opened-facts}
 use Rattle.format.proofs.Trees.{block-none, block-branch, block-loop, block-act, walk-of, no-arms}
@@ -32,10 +33,10 @@ use Rattle.acts.specs.declared.Stored.{Stored}
 use Rattle.acts.specs.declared.Acted.{Acted}
 use Rattle.acts.specs.declared.Acted.the-variants.{Done, Unmet}
 use Rattle.machine.specs.Choices.{choices-of}
-use Rattle.acts.specs.Inner.Acting.{Room, Rooms, Low, Spans, Holds, Acts}
-use Rattle.machine.specs.Inner.Standing.{Spot, Runner, entered, skipped, left-arm, past-record, chosen, from-of, to-of, ended-with, moved-to, arm-ended, tested, rest-of, left-of, weight, measure, Part, Placed, Ended, Reaches}
+use Rattle.acts.specs.Inner.Acting.{Room, Rooms, Same, Low, Spans, Holds, Acts}
+use Rattle.machine.specs.Inner.Standing.{Spot, Runner, stored-with, tally-with, entered, skipped, settled, past-record, chosen, from-of, to-of, ended-with, moved-to, tested, rest-of, left-of, weight, measure, Part, Placed, next-record, said-of, Stands, StepsAs, Steps, Stood, Reaches}
 use Rattle.machine.proofs.Records.{few-arrays, spans, inside, few-counted, few-moved}
-use Rattle.machine.proofs.Places.{left-entered, placed-entered, left-left, weight-left, placed-left, light}
+use Rattle.machine.proofs.Places.{left-entered, starts-entered, placed-entered, settling, light}
 
 -- the step of a configuration whose parts are known
 step-at : (arrays : Arrays) (k : Config) (b : Block) (cs : List Bool) → k .left ≡ b → k .choices ≡ cs → step arrays k ≡ step arrays (config b cs (k .state) (k .history))
@@ -92,103 +93,89 @@ pub record Able (arrays : Arrays) (x : Fields) (from to : ℕ) (s : Stored) (at 
   pub few : at < 1024
 
 -- the laws of a step from where the machine stands
-module _ (f : List ℕ) (choices : List ℕ) (m : Runner) (own others latest : List ℕ) (w : Reaches f choices m own others latest) (run : m .running ≡ true) where
+module _ (f choices : List ℕ) (m : Runner) (own others latest : List ℕ) (t : Tally) (run : m .running ≡ true) (k : Config) (w : Stands f choices m own others latest t k) where
   abbrev arrays : Arrays
   arrays = arrays-of f
-
-  abbrev k : Config
-  k = w .config
 
   abbrev p : Spot
   p = m .place
 
+  -- what a step from here is to show, of where it leads
+  abbrev Stepped : Runner → List ℕ → List ℕ → List ℕ → Tally → Type 0
+  Stepped m′ own′ others′ latest′ t′ = StepsAs f choices k m′ own′ others′ latest′ t′ (step arrays k) × (measure (length choices) m′ < measure (length choices) m)
+
   -- the run ends here
-  end-here : (v : Verdict) → Ended f k false v → Reaches f choices (ended-with m v) own others latest × (measure (length choices) (ended-with m v) < measure (length choices) m)
+  end-here : (v : Verdict) (e : Ending) → v ≡ said-of e → step arrays k ≡ Step.ends e → Stepped (ended-with m v) own others latest t
   unfolding measure
-  end-here v e = (
-    record {
-      config = k;
-      run = w .run;
-      placed = w .placed;
-      left = w .left;
-      used = w .used;
-      choices-left = w .choices-left;
-      holds = w .holds;
-      few = w .few;
-      few-moved = w .few-moved;
-      ended = e;
-    },
+  end-here v e q s = (
+    rw s (
+      refl,
+      q,
+      record {
+        plain = w .plain;
+        many = w .many;
+        starts = w .starts;
+        placed = w .placed;
+        settles = w .settles;
+        left = w .left;
+        used = w .used;
+        choices-left = w .choices-left;
+        holds = w .holds;
+        few = w .few;
+        few-moved = w .few-moved;
+      },
+    ),
     rw run (omega arith),
   )
 
-  -- the end of the body, or of an arm
-  body-end : p .at ≡ p .end → p .depth ≡ 0 → k .left ≡ Block.done
+  -- the end of the body
+  body-end : p .at ≡ p .end → k .left ≡ Block.done
   unfolding left-of rest-of
-  body-end z q = w .left ∙ rw (q, z, block-none f (p .end) (p .end) (omega arith))
+  body-end z = w .left ∙ rw (w .settles z, z, block-none f (p .end) (p .end) (omega arith))
 
-  arm-left : p .at ≡ p .end → (d : ℕ) → p .depth ≡ suc d →
-      Reaches f choices (moved-to m (left-arm p) (m .stored)) own others latest × (measure (length choices) (moved-to m (left-arm p) (m .stored)) < measure (length choices) m)
-  unfolding measure
-  arm-left z d q = (
-    record {
-      config = k;
-      run = w .run;
-      placed = placed-left f p d q (w .placed) z;
-      left = w .left ∙ sym (left-left f p d q (w .placed) z);
-      used = w .used;
-      choices-left = w .choices-left;
-      holds = w .holds;
-      few = omega (arith, w .few, weight-left f p d q (w .placed) z);
-      few-moved = w .few-moved;
-      ended = w .ended;
-    },
-    omega (arith, weight-left f p d q (w .placed) z),
-  )
+  pub at-end : p .at ≡ p .end → (r : Runner) → r ≡ ended-with m Accepted → Stepped r own others latest t
+  at-end z r e = rw e (end-here Accepted finished refl (step-at arrays k Block.done (k .choices) (body-end z) refl))
 
-  pub at-arm-end : p .at ≡ p .end → (r : Runner) → r ≡ arm-ended m → Reaches f choices r own others latest × (measure (length choices) r < measure (length choices) m)
-  unfolding arm-ended
-  at-arm-end z r e = go (p .depth) refl
-    where
-      go : (d : ℕ) → p .depth ≡ d → Reaches f choices r own others latest × (measure (length choices) r < measure (length choices) m)
-      go zero q = rw (e, eq-eqb (p .depth) 0 q) (end-here Accepted (step-at arrays k Block.done (k .choices) (body-end z q) refl))
-      go (suc d) q = rw (e, ne-eqb (p .depth) 0 (λ y. omega arith)) (arm-left z d q)
+  few-records : record-count f ≤ 1024
+  few-records = opened-facts f (w .plain .opens) .bounds .records
 
-  -- it goes on at configuration j
-  still : (j : Config) → Ended f j (m .running) (m .verdict)
-  still j = let a : m .verdict ≡ Accepted = rw run at (w .ended) in rw run a
+  few-arrays-here : array-count f ≤ 32
+  few-arrays-here = opened-facts f (w .plain .opens) .bounds .header .arrays .1
 
   -- a branch or a test takes a choice
-  took : (q : Spot) (b : Block) → record-count f ≤ 1024 → p .used < length choices →
+  took : (c : Spot) (b : Block) → p .used < length choices → p .at ≡ next-record (k .left) →
       step arrays k ≡ Step.next (config b (choices-of (drop (suc (p .used)) choices)) (k .state) (k .history)) →
-      left-of f q ≡ b → Placed f q → q .used ≡ p .used + 1 →
-      Reaches f choices (moved-to m q (m .stored)) own others latest × (measure (length choices) (moved-to m q (m .stored)) < measure (length choices) m)
-  unfolding measure plan-of
-  took q b few h s l placed u =
-      let t = light f few q placed in (
-        record {
-          config = config b (choices-of (drop (suc (p .used)) choices)) (k .state) (k .history);
-          run = onward (w .run) s;
-          placed = placed;
-          left = sym l;
-          used = omega arith;
-          choices-left = rw (u, add-one (p .used));
-          holds = w .holds;
-          few = omega (arith, w .few);
-          few-moved = w .few-moved;
-          ended = still _;
-        },
-        omega arith,
+      left-of f c ≡ b → Placed f c → Starts f (c .room) → c .used ≡ p .used + 1 → Stepped (moved-to m (settled c) (m .flags) (m .others)) own others latest t
+  unfolding measure
+  took c b h number s l placed starts u =
+      let q = settling f (c .depth) c refl placed in
+      let light-there = light f few-records (settled c) (q .placed) in (
+        rw s (
+          run,
+          number,
+          record {
+            plain = w .plain;
+            many = w .many;
+            starts = rw (q .room) starts;
+            placed = q .placed;
+            settles = q .out;
+            left = sym (q .left ∙ l);
+            used = omega (arith, q .used);
+            choices-left = rw (q .used ∙ u, add-one (p .used));
+            holds = w .holds;
+            few = omega (arith, w .few, q .used);
+            few-moved = w .few-moved;
+          },
+        ),
+        omega (arith, q .used),
       )
 
-  module _ (bodies : ℕ) (plain : Plain f bodies) (h : p .at < p .end) (x : Fields) (e : x ≡ fields-at f (p .at)) where
-    few-records : record-count f ≤ 1024
-    few-records = opened-facts f (plain .opens) .bounds .records
-
+  module _ (h : p .at < p .end) (x : Fields) (e : x ≡ fields-at f (p .at)) where
     abbrev part : Part f (p .depth) (p .at) (p .end)
     part = w .placed .here
 
     abbrev behind : Block
-    behind = rest-of f (p .ends) (p .backs) (p .depth)
+    behind = rest-of f (p .room) (p .depth)
 
     abbrev then-second : ℕ
     then-second = p .at + 1 + first-arm x
@@ -196,21 +183,24 @@ module _ (f : List ℕ) (choices : List ℕ) (m : Runner) (own others latest : L
     abbrev then-next : ℕ
     then-next = then-second + second-arm x
 
+    way : Walkable f (p .at) (p .end)
+    way = walk f (m .bodies) (w .plain) (p .depth) (p .at) (p .end) part h x e
+
     -- what is left, by the kind of the record
     branch-left : x .kind ≡ 6 → k .left ≡ Block.branch (p .at) (block-between f (p .at + 1) then-second) (block-between f then-second then-next) (block-between f then-next (p .end) then behind)
     unfolding left-of
-    branch-left y = w .left ∙ rw (block-branch f (p .at) (p .end) h (walk f bodies plain (p .depth) (p .at) (p .end) part h x e) x e y)
+    branch-left y = w .left ∙ rw (block-branch f (p .at) (p .end) h way x e y)
 
     loop-here : x .kind ≡ 7 → left-of f p ≡ Block.loop (p .at) (block-between f (p .at + 1) then-second) (block-between f then-next (p .end) then behind)
     unfolding left-of
-    loop-here y = rw (block-loop f (p .at) (p .end) h (walk f bodies plain (p .depth) (p .at) (p .end) part h x e) x e y)
+    loop-here y = rw (block-loop f (p .at) (p .end) h way x e y)
 
     act-left : x .kind ≤ 5 → k .left ≡ Block.act (p .at) (action-of x) (left-of f (past-record p))
     unfolding left-of
     act-left y =
         let a = no-arms x (λ z. omega arith) (λ z. omega arith) in
         let n : then-next ≡ p .at + 1 = omega (arith, a) in
-        w .left ∙ rw (block-act f (p .at) (p .end) h (walk f bodies plain (p .depth) (p .at) (p .end) part h x e) x e (λ z. omega arith) (λ z. omega arith), n)
+        w .left ∙ rw (block-act f (p .at) (p .end) h way x e (λ z. omega arith) (λ z. omega arith), n)
 
     module _ (u : p .used < length choices) where
       abbrev byte : ℕ
@@ -223,19 +213,19 @@ module _ (f : List ℕ) (choices : List ℕ) (m : Runner) (own others latest : L
       taken b q = w .choices-left ∙ ap choices-of (drop-cons choices (p .used) 0 u) ∙ rw q
 
       deep : 6 ≤ x .kind → p .depth < 16
-      deep = not-deep f bodies plain (p .depth) (p .at) (p .end) part h x e
+      deep = not-deep f (m .bodies) (w .plain) (p .depth) (p .at) (p .end) part h x e
 
       one : Part f (p .depth + 1) (p .at + 1) then-second
-      one = one-part f bodies plain (p .depth) (p .at) (p .end) part h x e
+      one = one-part f (m .bodies) (w .plain) (p .depth) (p .at) (p .end) part h x e
 
       two : Part f (p .depth + 1) then-second then-next
-      two = two-part f bodies plain (p .depth) (p .at) (p .end) part h x e
+      two = two-part f (m .bodies) (w .plain) (p .depth) (p .at) (p .end) part h x e
 
       rest : Part f (p .depth) then-next (p .end)
-      rest = rest-part f bodies plain (p .depth) (p .at) (p .end) part h x e
+      rest = rest-part f (m .bodies) (w .plain) (p .depth) (p .at) (p .end) part h x e
 
       abbrev Took : Spot → Type 0
-      Took q = Reaches f choices (moved-to m q (m .stored)) own others latest × (measure (length choices) (moved-to m q (m .stored)) < measure (length choices) m)
+      Took c = Stepped (moved-to m (settled c) (m .flags) (m .others)) own others latest t
 
       branch-took : x .kind ≡ 6 → Took (chosen p x byte)
       unfolding chosen
@@ -244,9 +234,12 @@ module _ (f : List ℕ) (choices : List ℕ) (m : Runner) (own others latest : L
           d : p .depth < 16
           d = deep (omega arith)
 
+          number : p .at ≡ next-record (k .left)
+          number = sym (ap next-record (branch-left y))
+
           go : (b : Bool) → eqb byte 0 ≡ b → Took (cond b (entered p then-second then-next then-next) (entered p (p .at + 1) then-second then-next))
-          go true q = took (entered p then-second then-next then-next) _ few-records u (step-at arrays k _ _ (branch-left y) (taken true q)) (left-entered f p then-second then-next then-next (w .placed) d) (placed-entered f p then-second then-next then-next (w .placed) d two rest) refl
-          go false q = took (entered p (p .at + 1) then-second then-next) _ few-records u (step-at arrays k _ _ (branch-left y) (taken false q)) (left-entered f p (p .at + 1) then-second then-next (w .placed) d) (placed-entered f p (p .at + 1) then-second then-next (w .placed) d one rest) refl
+          go true q = took (entered p then-second then-next then-next) _ u number (step-at arrays k _ _ (branch-left y) (taken true q)) (left-entered f p then-second then-next then-next (w .placed) d) (placed-entered f p then-second then-next then-next (w .placed) d two rest) (starts-entered f p then-second then-next then-next (w .placed) d few-arrays-here (w .starts)) refl
+          go false q = took (entered p (p .at + 1) then-second then-next) _ u number (step-at arrays k _ _ (branch-left y) (taken false q)) (left-entered f p (p .at + 1) then-second then-next (w .placed) d) (placed-entered f p (p .at + 1) then-second then-next (w .placed) d one rest) (starts-entered f p (p .at + 1) then-second then-next (w .placed) d few-arrays-here (w .starts)) refl
 
       loop-took : x .kind ≡ 7 → Took (chosen p x byte)
       unfolding chosen left-of
@@ -255,69 +248,77 @@ module _ (f : List ℕ) (choices : List ℕ) (m : Runner) (own others latest : L
           d : p .depth < 16
           d = deep (omega arith)
 
+          number : p .at ≡ next-record (k .left)
+          number = sym (ap next-record (w .left ∙ loop-here y))
+
           past-loop : Placed f (skipped p then-next)
-          past-loop = record { all-ends = w .placed .all-ends; all-backs = w .placed .all-backs; here = rest; behind = w .placed .behind; shallow = w .placed .shallow }
+          past-loop = record { size = w .placed .size; here = rest; behind = w .placed .behind; shallow = w .placed .shallow }
 
           go : (b : Bool) → eqb byte 0 ≡ b → Took (cond b (skipped p then-next) (entered p (p .at + 1) then-second (p .at)))
-          go true q = took (skipped p then-next) _ few-records u (step-at arrays k _ _ (w .left ∙ loop-here y) (taken true q)) refl past-loop refl
-          go false q = took (entered p (p .at + 1) then-second (p .at)) _ few-records u (step-at arrays k _ _ (w .left ∙ loop-here y) (taken false q)) (left-entered f p (p .at + 1) then-second (p .at) (w .placed) d ∙ ap (λ b. block-between f (p .at + 1) then-second then b) (loop-here y)) (placed-entered f p (p .at + 1) then-second (p .at) (w .placed) d one part) refl
+          go true q = took (skipped p then-next) _ u number (step-at arrays k _ _ (w .left ∙ loop-here y) (taken true q)) refl past-loop (w .starts) refl
+          go false q = took (entered p (p .at + 1) then-second (p .at)) _ u number (step-at arrays k _ _ (w .left ∙ loop-here y) (taken false q)) (left-entered f p (p .at + 1) then-second (p .at) (w .placed) d ∙ ap (λ b. block-between f (p .at + 1) then-second then b) (loop-here y)) (placed-entered f p (p .at + 1) then-second (p .at) (w .placed) d one part) (starts-entered f p (p .at + 1) then-second (p .at) (w .placed) d few-arrays-here (w .starts)) refl
 
     spent : p .used ≡ length choices → k .choices ≡ []
     spent u = w .choices-left ∙ ap choices-of (ap (λ n. drop n choices) u ∙ drop-length choices)
 
     -- a branch, or a test of a loop
-    pub at-test : 6 ≤ x .kind → (r : Runner) → r ≡ tested m x choices → Reaches f choices r own others latest × (measure (length choices) r < measure (length choices) m)
+    pub at-test : 6 ≤ x .kind → (r : Runner) → r ≡ tested m x choices → Stepped r own others latest t
     unfolding tested
     at-test y r q = rw q (go (eqb (p .used) (length choices)) refl)
       where
         a : x .kind ≤ 7
-        a = kind-is f bodies plain (p .depth) (p .at) (p .end) part h x e .1
+        a = kind-is f (m .bodies) (w .plain) (p .depth) (p .at) (p .end) part h x e .1
 
-        by-kind : (u : p .used < length choices) → Reaches f choices (moved-to m (chosen p x (getD choices (p .used) 0)) (m .stored)) own others latest × (measure (length choices) (moved-to m (chosen p x (getD choices (p .used) 0)) (m .stored)) < measure (length choices) m)
+        by-kind : (u : p .used < length choices) → Stepped (moved-to m (settled (chosen p x (getD choices (p .used) 0))) (m .flags) (m .others)) own others latest t
         by-kind u = elim (ℕᴺ-discrete (x .kind) 6) [ yes z ↦ branch-took u z | no z ↦ loop-took u (omega (arith, a)) ]
 
-        none-left : p .used ≡ length choices → Ended f k false (Refused 22 (p .at))
+        none-left : p .used ≡ length choices → step arrays k ≡ Step.ends (out-of-choices (p .at))
         none-left u = elim (ℕᴺ-discrete (x .kind) 6) [
-          | yes z ↦ (refl, step-at arrays k _ [] (branch-left z) (spent u))
-          | no z ↦ (refl, step-at arrays k _ [] (w .left ∙ loop-here (omega (arith, a))) (spent u))
+          | yes z ↦ step-at arrays k _ [] (branch-left z) (spent u)
+          | no z ↦ step-at arrays k _ [] (w .left ∙ loop-here (omega (arith, a))) (spent u)
         ]
 
-        go : (b : Bool) → eqb (p .used) (length choices) ≡ b → Reaches f choices (cond b (ended-with m (Refused 22 (p .at))) (moved-to m (chosen p x (getD choices (p .used) 0)) (m .stored))) own others latest × (measure (length choices) (cond b (ended-with m (Refused 22 (p .at))) (moved-to m (chosen p x (getD choices (p .used) 0)) (m .stored))) < measure (length choices) m)
-        go true u = end-here (Refused 22 (p .at)) (none-left (eqb-true _ _ u))
+        go : (b : Bool) → eqb (p .used) (length choices) ≡ b → Stepped (cond b (ended-with m (Refused 22 (p .at))) (moved-to m (settled (chosen p x (getD choices (p .used) 0))) (m .flags) (m .others))) own others latest t
+        go true u = end-here (Refused 22 (p .at)) (out-of-choices (p .at)) refl (none-left (eqb-true _ _ u))
         go false u = by-kind (let n = eqb-false (p .used) (length choices) u in omega (arith, w .used, n))
 
     -- a record that is unmet
-    pub at-stop : x .kind ≤ 5 → (c : Cell) → lowest-unmet arrays (action-of x) (k .state) ≡ some (c .0) →
-        Reaches f choices (ended-with m (Stopped (record { 0 = p .at }) c)) own others latest × (measure (length choices) (ended-with m (Stopped (record { 0 = p .at }) c)) < measure (length choices) m)
-    at-stop y c o = end-here (Stopped (record { 0 = p .at }) c) (step-at arrays k _ (k .choices) (act-left y) refl ∙ rw o)
+    at-stop : x .kind ≤ 5 → (c : Cell) → lowest-unmet arrays (action-of x) (k .state) ≡ some (c .0) → Stepped (ended-with m (Stopped (record { 0 = p .at }) c)) own others latest t
+    at-stop y c o = end-here (Stopped (record { 0 = p .at }) c) (stopped (p .at) (c .0)) refl (step-at arrays k _ (k .choices) (act-left y) refl ∙ rw o)
 
     -- a record that acts
-    pub at-act : x .kind ≤ 5 → (t : Stored) (own′ others′ latest′ : List ℕ) → lowest-unmet arrays (action-of x) (k .state) ≡ none →
-        Holds arrays host t own′ others′ latest′ (effect arrays (action-of x) (k .state)) (event (action-of x) (k .state) ∷ k .history) →
+    at-act : x .kind ≤ 5 → (s : Stored) (own′ others′ latest′ : List ℕ) → lowest-unmet arrays (action-of x) (k .state) ≡ none →
+        Holds arrays host s own′ others′ latest′ (effect arrays (action-of x) (k .state)) (event (action-of x) (k .state) ∷ k .history) →
         tally arrays (event (action-of x) (k .state) ∷ k .history) .moved ≤ tally arrays (k .history) .moved + 4096 →
-        Reaches f choices (moved-to m (past-record p) t) own′ others′ latest′ × (measure (length choices) (moved-to m (past-record p) t) < measure (length choices) m)
-    unfolding measure plan-of weight
-    at-act y t own′ others′ latest′ o held b =
+        Stepped (moved-to m (settled (past-record p)) (s .flags) (s .«other_flags»)) own′ others′ latest′ (tally-with s)
+    unfolding measure weight
+    at-act y s own′ others′ latest′ o held b =
         let a = no-arms x (λ z. omega arith) (λ z. omega arith) in
         let n : then-next ≡ p .at + 1 = omega (arith, a) in
-        let rest : Part f (p .depth) (p .at + 1) (p .end) = rw n at (rest-part f bodies plain (p .depth) (p .at) (p .end) part h x e) in
-        let j = config (left-of f (past-record p)) (k .choices) (effect arrays (action-of x) (k .state)) (event (action-of x) (k .state) ∷ k .history) in (
-          record {
-            config = j;
-            run = onward {k′ = j} (w .run) (step-at arrays k _ (k .choices) (act-left y) refl ∙ rw o);
-            placed = record { all-ends = w .placed .all-ends; all-backs = w .placed .all-backs; here = rest; behind = w .placed .behind; shallow = w .placed .shallow };
-            left = refl;
-            used = w .used;
-            choices-left = w .choices-left;
-            holds = held;
-            few = omega (arith, w .few);
-            few-moved = omega (arith, w .few-moved, b);
-            ended = still _;
-          },
-          omega arith,
+        let rest : Part f (p .depth) (p .at + 1) (p .end) = rw n at (rest-part f (m .bodies) (w .plain) (p .depth) (p .at) (p .end) part h x e) in
+        let q = settling f (p .depth) (past-record p) refl (record { size = w .placed .size; here = rest; behind = w .placed .behind; shallow = w .placed .shallow }) in
+        let went : step arrays k ≡ Step.next (config (left-of f (past-record p)) (k .choices) (effect arrays (action-of x) (k .state)) (event (action-of x) (k .state) ∷ k .history)) = step-at arrays k _ (k .choices) (act-left y) refl ∙ rw o in (
+          rw went (
+            run,
+            sym (ap next-record (act-left y)),
+            record {
+              plain = w .plain;
+              many = w .many;
+              starts = rw (q .room) (w .starts);
+              placed = q .placed;
+              settles = q .out;
+              left = sym (q .left);
+              used = omega (arith, w .used, q .used);
+              choices-left = rw (q .used) (w .choices-left);
+              holds = held;
+              few = omega (arith, w .few, q .used, q .lighter);
+              few-moved = omega (arith, w .few-moved, b);
+            },
+          ),
+          omega (arith, q .used, q .lighter),
         )
 
-    module _ (y : x .kind ≤ 5) (many : length choices ≤ 65536) (first next : ℕ) (a : first ≡ first-of arrays (x .array)) (b : next ≡ first-of arrays (x .array + 1)) where
+    module _ (y : x .kind ≤ 5) (first next : ℕ) (a : first ≡ first-of arrays (x .array)) (b : next ≡ first-of arrays (x .array + 1)) where
       abbrev from : ℕ
       from = from-of x first
 
@@ -325,39 +326,59 @@ module _ (f : List ℕ) (choices : List ℕ) (m : Runner) (own others latest : L
       to = to-of x first next
 
       kinds : (1 ≤ x .kind) × (x .kind ≤ 5)
-      kinds = (kind-is f bodies plain (p .depth) (p .at) (p .end) part h x e .0, y)
+      kinds = (kind-is f (m .bodies) (w .plain) (p .depth) (p .at) (p .end) part h x e .0, y)
 
       fit : fields-fit f x ≡ true
-      fit = record-fits f bodies plain (p .depth) (p .at) (p .end) part h x e
+      fit = record-fits f (m .bodies) (w .plain) (p .depth) (p .at) (p .end) part h x e
 
-      pub able : Able arrays x from to (m .stored) (p .at) own others latest
+      pub able : Able arrays x from to (stored-with m t) (p .at) own others latest
       able =
-          let i = inside f bodies plain x fit kinds first next a b in
+          let i = inside f (m .bodies) (w .plain) x fit kinds first next a b in
           let n = few-counted arrays (k .history) in
           let room : (l : List ℕ) → cells arrays ≤ length l → Room from to l = λ l g. record { order = i .0; inside = omega (arith, i .1, g) } in
           record {
             kind = kinds;
-            array = few-arrays f bodies plain x fit kinds;
+            array = few-arrays f (m .bodies) (w .plain) x fit kinds;
             low = record {
-              reads = omega (arith, w .holds .reads, n .0, w .few, w .used);
-              writes = omega (arith, w .holds .writes, n .1, w .few, w .used);
-              moved = omega (arith, w .holds .moved, w .few-moved, w .few, w .used);
+              reads = omega (arith, w .holds .reads, n .0, w .few, w .used, w .many);
+              writes = omega (arith, w .holds .writes, n .1, w .few, w .used, w .many);
+              moved = omega (arith, w .holds .moved, w .few-moved, w .few, w .used, w .many);
             };
             rooms = record { few = i .2; in-own = room own (w .holds .own-room); in-others = room others (w .holds .others-room); in-latest = room latest (w .holds .latest-room) };
             inside = i .1;
-            spans = spans f bodies plain x fit kinds first next a b;
+            spans = spans f (m .bodies) (w .plain) x fit kinds first next a b;
             few = omega (arith, part .inside, few-records);
           }
 
       abbrev After : Acted → List ℕ → List ℕ → List ℕ → Type 0
-      After (Done t) own′ others′ latest′ = Reaches f choices (moved-to m (past-record p) t) own′ others′ latest′ × (measure (length choices) (moved-to m (past-record p) t) < measure (length choices) m)
-      After (Unmet c) own′ others′ latest′ = Reaches f choices (ended-with m (Stopped (record { 0 = p .at }) c)) own′ others′ latest′ × (measure (length choices) (ended-with m (Stopped (record { 0 = p .at }) c)) < measure (length choices) m)
+      After (Done s) own′ others′ latest′ = Stepped (moved-to m (settled (past-record p)) (s .flags) (s .«other_flags»)) own′ others′ latest′ (tally-with s)
+      After (Unmet c) own′ others′ latest′ = Stepped (ended-with m (Stopped (record { 0 = p .at }) c)) own′ others′ latest′ t
 
       -- what the record did is a step of the run, or its end
-      pub at-record : (r : Acted) (own′ others′ latest′ : List ℕ) → Acts arrays (action-of x) (m .stored) own others latest r own′ others′ latest′ → After r own′ others′ latest′
-      at-record (Done t) own′ others′ latest′ acts =
+      pub at-record : (r : Acted) (own′ others′ latest′ : List ℕ) → Acts arrays (action-of x) (stored-with m t) own others latest r own′ others′ latest′ → After r own′ others′ latest′
+      at-record (Done s) own′ others′ latest′ acts =
           let q = acts (k .state) (k .history) (w .holds) in
-          at-act y t own′ others′ latest′ (q .0) (q .1) (few-moved arrays (action-of x) from to (able .spans) (able .rooms .few) (k .state) (k .history))
+          at-act y s own′ others′ latest′ (q .0) (q .1) (few-moved arrays (action-of x) from to (able .spans) (able .rooms .few) (k .state) (k .history))
       at-record (Unmet c) own′ others′ latest′ acts =
           let q = acts (k .state) (k .history) (w .holds) in
           rw (q .1, q .2, q .3) (at-stop y c (q .0))
+
+-- what a call of `step` ensures, from what it does at each configuration
+pub ensured : (f choices : List ℕ) (m : Runner) (own others latest : List ℕ) (t : Tally) (m′ : Runner) (own′ others′ latest′ : List ℕ) (t′ : Tally) (n : ℕ) → Stood f choices m own others latest t →
+    ((k : Config) → Stands f choices m own others latest t k → StepsAs f choices k m′ own′ others′ latest′ t′ (step (arrays-of f) k) × (measure (length choices) m′ < measure (length choices) m)) →
+    Same n own own′ → Same n others others′ → Same n latest latest′ →
+    Steps f choices m own others latest t m′ own′ others′ latest′ t′ × (measure (length choices) m′ < measure (length choices) m) × Same n own own′ × Same n others others′ × Same n latest latest′
+ensured f choices m own others latest t m′ own′ others′ latest′ t′ n w law a b c = (λ k v. law k v .0, law (w .config) (w .stands) .1, a, b, c)
+
+-- a machine at a configuration of the run holds some configuration, and after a step it is at the next one, or at the end
+pub stood : {f choices : List ℕ} {m : Runner} {own others latest : List ℕ} {t : Tally} → Reaches f choices m own others latest t → Stood f choices m own others latest t
+stood w = record { config = w .config; stands = w .stands }
+
+pub goes-on : {f choices : List ℕ} {m : Runner} {own others latest : List ℕ} {t : Tally} {m′ : Runner} {own′ others′ latest′ : List ℕ} {t′ : Tally} →
+    Reaches f choices m own others latest t → Steps f choices m own others latest t m′ own′ others′ latest′ t′ → Reaches f choices m′ own′ others′ latest′ t′
+unfolding plan-of
+goes-on {f} {choices} {m′ = m′} {own′} {others′} {latest′} {t′} w law = go (step (arrays-of f) (w .config)) refl (law (w .config) (w .stands))
+  where
+    go : (s : Step) → step (arrays-of f) (w .config) ≡ s → StepsAs f choices (w .config) m′ own′ others′ latest′ t′ s → Reaches f choices m′ own′ others′ latest′ t′
+    go (Step.next k) q s = record { config = k; run = onward (w .run) q; stands = s .2; ended = rw (s .0) tt }
+    go (Step.ends e) q s = record { config = w .config; run = w .run; stands = s .2; ended = rw (s .0) (record { ending = e; last = q; says = s .1 }) }

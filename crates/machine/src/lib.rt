@@ -1,4 +1,4 @@
-// The runner: one step, with its invariant.
+// Where a run stands in a plan, and one step of it.
 ghost use mathlib.Core.Path.{_≡_};
 ghost use mathlib.Core.Bool.{true};
 ghost use mathlib.Core.List.{List};
@@ -6,92 +6,92 @@ ghost use Prim.Native.Nat.{ℕ, _+_, _≤_, _<_};
 ghost use lib.ListN.{length};
 ghost use Rattle.model.specs.Sides.{cells};
 ghost use Rattle.reading.specs.Bytes.{arrays-of, first-arm, second-arm};
-ghost use Rattle.format.specs.Inner.Walks.{Plain, Starts};
 ghost use Rattle.acts.specs.Inner.Acting.{Same};
-ghost use Rattle.machine.specs.Inner.Standing.{spot, runner, past-record, ended-with, moved-to, arm-ended, tested, from-of, to-of, measure, Reaches};
-use crate::place::LEVELS;
-use crate::place::Place;
-use crate::place::choose;
-use crate::place::leave;
+ghost use Rattle.machine.specs.Inner.Standing.{spot, runner, stored-with, tally-with, past-record, ended-with, moved-to, tested, from-of, to-of, measure, Stood, Steps};
 use acts::Acted;
 use acts::Stored;
 use acts::act;
 use model::Record;
+use model::Tally;
 use model::Verdict;
+use place::Place;
+use place::choose;
+use place::settle;
 use reading::Fields;
 use reading::record_at;
 
 pub mod place;
 
-// Where a run stands, its flags and tally; the verdict is that of a run that has ended, accepted while it runs.
+// Where a run stands, its flags, and where the plan's bodies begin; the record that the last step executed. The verdict is that of a run that has ended, accepted while it runs.
+// The counters stand in the tally alone.
 pub struct Machine {
     pub place: Place,
-    pub stored: Stored,
+    pub flags: u32,
+    pub other_flags: u32,
+    pub bodies: usize,
+    pub last: Record,
     pub verdict: Verdict,
     pub running: bool,
 }
 
+// A machine, and the tally that stands beside it.
+pub struct Stepped {
+    pub machine: Machine,
+    pub tally: Tally,
+}
+
 // The run has ended.
 fn ended(m: Machine, v: Verdict) -> Machine
-    ensures { λ r. ⌜ ((ends backs : List ℕ) → runner r ends backs ≡ ended-with (runner m ends backs) v) ⌝ }
+    ensures { λ r. ⌜ ((room : List ℕ) → runner r room ≡ ended-with (runner m room) v) ⌝ }
 {
     let p = m.place;
-    let s = m.stored;
+    let last = m.last;
     Machine {
         place: p,
-        stored: s,
+        flags: m.flags,
+        other_flags: m.other_flags,
+        bodies: m.bodies,
+        last: last,
         verdict: v,
         running: false,
     }
 }
 
-// The run has moved on.
-fn moved(m: Machine, p: Place, s: Stored) -> Machine
-    ensures { λ r. ⌜ ((ends backs : List ℕ) → runner r ends backs ≡ moved-to (runner m ends backs) (spot p ends backs) s) ⌝ }
+// The run has moved on from a record.
+fn moved(m: Machine, p: Place, flags: u32, other_flags: u32) -> Machine
+    ensures { λ r. ⌜ ((room : List ℕ) → runner r room ≡ moved-to (runner m room) (spot p room) flags «other_flags») ⌝ }
 {
-    let mut n = m;
-    n.place = p;
-    n.stored = s;
-    n
-}
-
-// The end of an arm, or of the body.
-fn arm_end(m: Machine, ends: &[u16; LEVELS], backs: &[u16; LEVELS]) -> Machine
-    requires { ⌜ m .place .depth ≤ 16 ⌝ }
-    ensures { λ r. ⌜ runner r (now (ends .entry)) (now (backs .entry)) ≡ arm-ended (runner m (now (ends .entry)) (now (backs .entry))) ⌝ }
-{
-    let p = m.place;
-    if p.depth == 0 {
-        return ended(m, Verdict::Accepted);
+    let q = m.place;
+    let v = m.verdict;
+    Machine {
+        place: p,
+        flags: flags,
+        other_flags: other_flags,
+        bodies: m.bodies,
+        last: Record(q.at),
+        verdict: v,
+        running: m.running,
     }
-    let s = m.stored;
-    moved(m, leave(p, ends, backs), s)
 }
 
 // A branch, or a test of a loop, with the fields x.
-fn test(
-    m: Machine,
-    x: Fields,
-    choices: &[u8],
-    ends: &mut [u16; LEVELS],
-    backs: &mut [u16; LEVELS],
-) -> Machine
-    requires { ⌜ (m .place .depth < 16) × (m .place .used ≤ length (now choices)) × (length (now choices) ≤ 65536) × (m .place .at + 1 + first-arm x + second-arm x < 65536) ⌝ }
-    ensures { λ r. ⌜ runner r (now (ends .exit)) (now (backs .exit)) ≡ tested (runner m (now (ends .entry)) (now (backs .entry))) x (now (choices .entry)) ⌝ }
+fn test(m: Machine, x: Fields, choices: &[u8], room: &mut [u16]) -> Machine
+    requires { ⌜ (m .place .depth < 16) × (m .place .used ≤ length (now choices)) × (length (now choices) ≤ 65536) × (length (now room) ≡ 65) × (m .place .at + 1 + first-arm x + second-arm x < 65536) ⌝ }
+    ensures { λ r. ⌜ runner r (now (room .exit)) ≡ tested (runner m (now (room .entry))) x (now (choices .entry)) ⌝ }
 {
     let p = m.place;
     let used = p.used as usize;
     if used == choices.len() {
         return ended(m, Verdict::Refused(22, p.at));
     }
-    let s = m.stored;
-    moved(m, choose(p, x, choices[used], ends, backs), s)
+    let q = choose(p, x, choices[used], room);
+    moved(m, settle(q, room), m.flags, m.other_flags)
 }
 
 // The place past a record without arms.
 fn past(p: Place) -> Place
     requires { ⌜ p .at < 1024 ⌝ }
-    ensures { λ r. ⌜ ((ends backs : List ℕ) → spot r ends backs ≡ past-record (spot p ends backs)) ⌝ }
+    ensures { λ r. ⌜ ((room : List ℕ) → spot r room ≡ past-record (spot p room)) ⌝ }
 {
     let mut q = p;
     q.at = p.at + 1;
@@ -120,42 +120,90 @@ fn next_cell(x: Fields, first: u16, next: u16) -> usize
     next as usize
 }
 
-// One step of a run: the end of an arm, a branch or a test of a loop, or a record.
+// What a record acts on besides the memories.
+fn acted_on(m: Machine, t: Tally) -> Stored
+    ensures { λ r. ⌜ ((room : List ℕ) → r ≡ stored-with (runner m room) t) ⌝ }
+{
+    Stored {
+        flags: m.flags,
+        other_flags: m.other_flags,
+        reads: t.reads,
+        writes: t.writes,
+        moved: t.moved,
+    }
+}
+
+// The tally of that.
+fn tally_of(s: Stored) -> Tally
+    ensures { λ r. ⌜ r ≡ tally-with s ⌝ }
+{
+    Tally {
+        reads: s.reads,
+        writes: s.writes,
+        moved: s.moved,
+    }
+}
+
+// One step of the definition of a run: a record, a branch, a test of a loop, or the end. The tally goes through it by value.
 pub fn step(
     m: Machine,
     plan: &[u8],
-    bodies: usize,
-    starts: &[u16; 33],
     choices: &[u8],
     host: &mut [u64],
     card: &mut [u64],
     latest: &mut [u64],
-    ends: &mut [u16; LEVELS],
-    backs: &mut [u16; LEVELS],
-) -> Machine
-    requires { ⌜ (m .running ≡ true) × (length (now choices) ≤ 65536) × Plain (now plan) bodies × Starts (now plan) (now starts) × Reaches (now plan) (now choices) (runner m (now ends) (now backs)) (now host) (now card) (now latest) ⌝ }
-    ensures reaches { λ r. ⌜ Reaches (now (plan .entry)) (now (choices .entry)) (runner r (now (ends .exit)) (now (backs .exit))) (now (host .exit)) (now (card .exit)) (now (latest .exit)) ⌝ }
-    ensures less { λ r. ⌜ measure (length (now (choices .entry))) (runner r (now (ends .exit)) (now (backs .exit))) < measure (length (now (choices .entry))) (runner m (now (ends .entry)) (now (backs .entry))) ⌝ }
-    ensures host { λ _. ⌜ Same (cells (arrays-of (now (plan .entry)))) (now (host .entry)) (now (host .exit)) ⌝ }
-    ensures card { λ _. ⌜ Same (cells (arrays-of (now (plan .entry)))) (now (card .entry)) (now (card .exit)) ⌝ }
-    ensures latest { λ _. ⌜ Same (cells (arrays-of (now (plan .entry)))) (now (latest .entry)) (now (latest .exit)) ⌝ }
+    room: &mut [u16],
+    t: Tally,
+) -> Stepped
+    requires { ⌜ (m .running ≡ true) × Stood (now plan) (now choices) (runner m (now room)) (now host) (now card) (now latest) t ⌝ }
+    ensures { λ r. ⌜ Steps (now (plan .entry)) (now (choices .entry)) (runner m (now (room .entry))) (now (host .entry)) (now (card .entry)) (now (latest .entry)) t (runner (r .machine) (now (room .exit))) (now (host .exit)) (now (card .exit)) (now (latest .exit)) (r .tally) × (measure (length (now (choices .entry))) (runner (r .machine) (now (room .exit))) < measure (length (now (choices .entry))) (runner m (now (room .entry)))) × Same (cells (arrays-of (now (plan .entry)))) (now (host .entry)) (now (host .exit)) × Same (cells (arrays-of (now (plan .entry)))) (now (card .entry)) (now (card .exit)) × Same (cells (arrays-of (now (plan .entry)))) (now (latest .entry)) (now (latest .exit)) ⌝ }
 {
     let p = m.place;
     if p.at == p.end {
-        return arm_end(m, ends, backs);
+        return Stepped {
+            machine: ended(m, Verdict::Accepted),
+            tally: t,
+        };
     }
-    let x = record_at(plan, bodies, p.at as usize);
+    let x = record_at(plan, m.bodies, p.at as usize);
     if 6 <= x.kind {
-        return test(m, x, choices, ends, backs);
+        return Stepped {
+            machine: test(m, x, choices, room),
+            tally: t,
+        };
     }
     let a = x.array as usize;
-    let first = starts[a];
-    let next = starts[a + 1];
+    let first = room[a];
+    let next = room[a + 1];
     let from = first_cell(x, first);
     let to = next_cell(x, first, next);
-    let s = m.stored;
-    match act(x, from, to, s, host, card, latest) {
-        Acted::Done(t) => moved(m, past(p), t),
-        Acted::Unmet(c) => ended(m, Verdict::Stopped(Record(p.at), c)),
+    match act(x, from, to, acted_on(m, t), host, card, latest) {
+        Acted::Done(s) => Stepped {
+            machine: moved(m, settle(past(p), room), s.flags, s.other_flags),
+            tally: tally_of(s),
+        },
+        Acted::Unmet(c) => Stepped {
+            machine: ended(m, Verdict::Stopped(Record(p.at), c)),
+            tally: t,
+        },
     }
+}
+
+// One step, around which the tally is lent: it is brought up to date after each record.
+pub fn step_lent(
+    m: Machine,
+    plan: &[u8],
+    choices: &[u8],
+    host: &mut [u64],
+    card: &mut [u64],
+    latest: &mut [u64],
+    room: &mut [u16],
+    tally: &mut Tally,
+) -> Machine
+    requires { ⌜ (m .running ≡ true) × Stood (now plan) (now choices) (runner m (now room)) (now host) (now card) (now latest) (now tally) ⌝ }
+    ensures { λ r. ⌜ Steps (now (plan .entry)) (now (choices .entry)) (runner m (now (room .entry))) (now (host .entry)) (now (card .entry)) (now (latest .entry)) (now (tally .entry)) (runner r (now (room .exit))) (now (host .exit)) (now (card .exit)) (now (latest .exit)) (now (tally .exit)) × (measure (length (now (choices .entry))) (runner r (now (room .exit))) < measure (length (now (choices .entry))) (runner m (now (room .entry)))) × Same (cells (arrays-of (now (plan .entry)))) (now (host .entry)) (now (host .exit)) × Same (cells (arrays-of (now (plan .entry)))) (now (card .entry)) (now (card .exit)) × Same (cells (arrays-of (now (plan .entry)))) (now (latest .entry)) (now (latest .exit)) ⌝ }
+{
+    let r = step(m, plan, choices, host, card, latest, room, *tally);
+    *tally = r.tally;
+    r.machine
 }

@@ -3,16 +3,21 @@ ghost use mathlib.Core.Path.{_≡_};
 ghost use mathlib.Core.List.{List};
 ghost use Prim.Native.Nat.{ℕ, _+_, _≤_, _<_};
 ghost use Rattle.reading.specs.Bytes.{first-arm, second-arm};
-ghost use Rattle.machine.specs.Inner.Standing.{spot, started, entered, skipped, left-arm, chosen};
+ghost use lib.ListN.{length};
+ghost use Rattle.machine.specs.Inner.Standing.{spot, started, entered, skipped, left-arm, settled, chosen};
 use reading::Fields;
 use reading::first_arm;
 use reading::second_arm;
 
-// How deep branches and loops may stand in each other.
-pub const LEVELS: usize = 16;
+// What is lent to the step besides the memories: entry a is the first cell of array a, and after the last array the number of cells; entry ENDS + d is the
+// end of what holds an arm at depth d, entry BACKS + d where the run goes on in it after the arm.
+pub const ROOM: usize = 65;
 
-// Record `at` of an arm or body that ends before record `end`. The arms that hold it are on a stack that is lent to the step. Entry d of it: the end of
-// what holds an arm at depth d, and where the run goes on in it after the arm.
+const ENDS: usize = 33;
+
+const BACKS: usize = 49;
+
+// Record `at` of an arm or body that ends before record `end`, `depth` arms deep; how many choices are used.
 pub struct Place {
     pub at: u16,
     pub end: u16,
@@ -33,20 +38,13 @@ pub fn first_place(records: u16) -> Place
 }
 
 // Into an arm, after which the run goes on at record `back`; one choice more is used.
-fn enter(
-    p: Place,
-    at: u16,
-    end: u16,
-    back: u16,
-    ends: &mut [u16; LEVELS],
-    backs: &mut [u16; LEVELS],
-) -> Place
-    requires { ⌜ (p .depth < 16) × (p .used < 65536) ⌝ }
-    ensures { λ r. ⌜ spot r (now (ends .exit)) (now (backs .exit)) ≡ entered (spot p (now (ends .entry)) (now (backs .entry))) at end back ⌝ }
+fn enter(p: Place, at: u16, end: u16, back: u16, room: &mut [u16]) -> Place
+    requires { ⌜ (p .depth < 16) × (p .used < 65536) × (length (now room) ≡ 65) ⌝ }
+    ensures { λ r. ⌜ spot r (now (room .exit)) ≡ entered (spot p (now (room .entry))) at end back ⌝ }
 {
     let d = p.depth as usize;
-    ends[d] = p.end;
-    backs[d] = back;
+    room[ENDS + d] = p.end;
+    room[BACKS + d] = back;
     Place {
         at: at,
         end: end,
@@ -58,7 +56,7 @@ fn enter(
 // Past a loop; one choice more is used.
 fn skip(p: Place, at: u16) -> Place
     requires { ⌜ p .used < 65536 ⌝ }
-    ensures { λ r. ⌜ ((ends backs : List ℕ) → spot r ends backs ≡ skipped (spot p ends backs) at) ⌝ }
+    ensures { λ r. ⌜ ((room : List ℕ) → spot r room ≡ skipped (spot p room) at) ⌝ }
 {
     Place {
         at: at,
@@ -69,41 +67,47 @@ fn skip(p: Place, at: u16) -> Place
 }
 
 // Out of an arm.
-pub fn leave(p: Place, ends: &[u16; LEVELS], backs: &[u16; LEVELS]) -> Place
-    requires { ⌜ (0 < p .depth) × (p .depth ≤ 16) ⌝ }
-    ensures { λ r. ⌜ spot r (now (ends .entry)) (now (backs .entry)) ≡ left-arm (spot p (now (ends .entry)) (now (backs .entry))) ⌝ }
+fn leave(p: Place, room: &[u16]) -> Place
+    requires { ⌜ (0 < p .depth) × (p .depth ≤ 16) × (length (now room) ≡ 65) ⌝ }
+    ensures { λ r. ⌜ spot r (now (room .entry)) ≡ left-arm (spot p (now (room .entry))) ⌝ }
 {
     let d = (p.depth - 1) as usize;
     Place {
-        at: backs[d],
-        end: ends[d],
+        at: room[BACKS + d],
+        end: room[ENDS + d],
         depth: p.depth - 1,
         used: p.used,
     }
 }
 
+// Out of every arm that ends here.
+pub fn settle(p: Place, room: &[u16]) -> Place
+    requires { ⌜ (p .depth ≤ 16) × (length (now room) ≡ 65) ⌝ }
+    ensures { λ r. ⌜ spot r (now (room .entry)) ≡ settled (spot p (now (room .entry))) ⌝ }
+{
+    let mut q = p;
+    while (q.at == q.end) & (0 < q.depth) {
+        q = leave(q, room);
+    }
+    q
+}
+
 // Where a branch or a test of a loop with the fields x leads on a choice.
-pub fn choose(
-    p: Place,
-    x: Fields,
-    choice: u8,
-    ends: &mut [u16; LEVELS],
-    backs: &mut [u16; LEVELS],
-) -> Place
-    requires { ⌜ (p .depth < 16) × (p .used < 65536) × (p .at + 1 + first-arm x + second-arm x < 65536) ⌝ }
-    ensures { λ r. ⌜ spot r (now (ends .exit)) (now (backs .exit)) ≡ chosen (spot p (now (ends .entry)) (now (backs .entry))) x choice ⌝ }
+pub fn choose(p: Place, x: Fields, choice: u8, room: &mut [u16]) -> Place
+    requires { ⌜ (p .depth < 16) × (p .used < 65536) × (length (now room) ≡ 65) × (p .at + 1 + first-arm x + second-arm x < 65536) ⌝ }
+    ensures { λ r. ⌜ spot r (now (room .exit)) ≡ chosen (spot p (now (room .entry))) x choice ⌝ }
 {
     let at = p.at;
     let second = at + 1 + first_arm(x) as u16;
     let next = second + second_arm(x) as u16;
     if x.kind == 6 {
         if choice == 0 {
-            return enter(p, second, next, next, ends, backs);
+            return enter(p, second, next, next, room);
         }
-        return enter(p, at + 1, second, next, ends, backs);
+        return enter(p, at + 1, second, next, room);
     }
     if choice == 0 {
         return skip(p, next);
     }
-    enter(p, at + 1, second, at, ends, backs)
+    enter(p, at + 1, second, at, room)
 }

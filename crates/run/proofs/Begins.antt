@@ -2,10 +2,12 @@
 use mathlib.Core.Path.{_≡_, refl, sym, ap, _∙_}
 use mathlib.Core.Bool.{true, false, not, _||_}
 use mathlib.Core.List.{List}
-use Prim.Native.Nat.{ℕ, _≤_, _<_}
+use Prim.Native.Nat.{ℕ, _+_, _≤_, _<_}
+use native.Nat.{ℕᴺ-discrete}
 use native.Mathlib.Omega.{arith}
 use lib.Dec.{ltb, eqb}
-use lib.ListN.{length, getD}
+use lib.ListN.{length, getD, set}
+use lib.Seq.{getD-set-same, getD-set-other}
 use borrow.Author.Tests.{eq-eqb, ne-eqb, eqb-true, lt-ltb, le-leb, ltb-false, not-false}
 use Rattle.model.specs.declared.Verdict.{Verdict}
 use Rattle.model.specs.declared.Verdict.the-variants.{Accepted, Refused}
@@ -29,7 +31,7 @@ use Rattle.run.specs.Running.{Lent, run-rows}
 use Rattle.machine.specs.Choices.{choices-of}
 use Rattle.acts.specs.Inner.Acting.{Changed}
 use Rattle.machine.specs.Inner.Standing.{spot, runner, started, rest-of, left-of, weight-of, weight, Parts, Reaches}
-use Rattle.run.specs.Inner.Beginning.{first-machine, Ready}
+use Rattle.run.specs.Inner.Beginning.{Fronted, first-machine, Ready}
 use Rattle.acts.proofs.Masks.{none}
 
 -- the rows, one after the other
@@ -90,9 +92,9 @@ module _ (f choices : List ℕ) (b : Lent) where
 
 -- the start
 module _ (f choices : List ℕ) (facts : Facts f) (kind : kind-of f ≡ 2) where
-  start-left : (ends backs : List ℕ) → plan-of f .body ≡ left-of f (spot (started (record-count f)) ends backs)
+  start-left : (room : List ℕ) → plan-of f .body ≡ left-of f (spot (started (record-count f)) room)
   unfolding left-of rest-of
-  start-left ends backs = plain-body f facts ∙ sym (then-done (block-between f 0 (record-count f)))
+  start-left room = plain-body f facts ∙ sym (then-done (block-between f 0 (record-count f)))
 
   module _ (n : ℕ) (q : n ≡ cells (arrays-of f)) (h c l own others latest : List ℕ)
       (rh : n ≤ length h) (rc : n ≤ length c) (rl : n ≤ length l)
@@ -100,40 +102,53 @@ module _ (f choices : List ℕ) (facts : Facts f) (kind : kind-of f ≡ 2) where
     filled : (v : ℕ) (a b : List ℕ) → Changed 0 n (λ i. v) a b → (i : ℕ) → i < cells (arrays-of f) → getD b i 0 ≡ v
     filled v a b w i k = w .cell i ∙ rw (le-leb 0 i (omega arith), lt-ltb i n (omega arith))
 
-    pub reaches-start : (ends backs : List ℕ) → length ends ≡ 16 → length backs ≡ 16 → Reaches f choices (runner (first-machine (record-count f) (array-count f)) ends backs) own others latest
+    pub reaches-start : (bodies : ℕ) → Plain f bodies → length choices ≤ 65536 → (room : List ℕ) → length room ≡ 65 → Starts f room →
+        Reaches f choices (runner (first-machine (record-count f) (array-count f) bodies) room) own others latest (record { reads = 0; writes = 0; moved = 0 })
     unfolding weight weight-of Parts plan-of
-    reaches-start ends backs e b = record {
+    reaches-start bodies plain many room e starts = record {
       config = begin (plan-of f) (choices-of choices);
       run = here;
-      placed = record {
-        all-ends = e;
-        all-backs = b;
-        here = record { good = plain-good f facts kind; order = omega arith; inside = omega arith };
-        behind = tt;
-        shallow = omega arith;
+      stands = record {
+        plain = plain;
+        many = many;
+        starts = starts;
+        placed = record {
+          size = e;
+          here = record { good = plain-good f facts kind; order = omega arith; inside = omega arith };
+          behind = tt;
+          shallow = omega arith;
+        };
+        settles = λ z. refl;
+        left = start-left room;
+        used = omega arith;
+        choices-left = refl;
+        holds = record {
+          own-room = omega (arith, on-host .size);
+          others-room = omega (arith, on-card .size);
+          latest-room = omega (arith, on-latest .size);
+          own-held = filled 0 h own on-host;
+          others-held = filled 18446744073709551615 c others on-card;
+          latest-held = filled 0 l latest on-latest;
+          own-flags = rw (arrays-counted f) refl;
+          others-flags = sym (none (length (arrays-of f)));
+          reads = refl;
+          writes = refl;
+          moved = refl;
+          counted = refl;
+          past = past {plan = plan-of f} {cs = choices-of choices} here;
+        };
+        few = omega (arith, facts .bounds .records);
+        few-moved = omega arith;
       };
-      left = start-left ends backs;
-      used = omega arith;
-      choices-left = refl;
-      holds = record {
-        own-room = omega (arith, on-host .size);
-        others-room = omega (arith, on-card .size);
-        latest-room = omega (arith, on-latest .size);
-        own-held = filled 0 h own on-host;
-        others-held = filled 18446744073709551615 c others on-card;
-        latest-held = filled 0 l latest on-latest;
-        own-flags = rw (arrays-counted f) refl;
-        others-flags = sym (none (length (arrays-of f)));
-        reads = refl;
-        writes = refl;
-        moved = refl;
-        counted = refl;
-        past = past {plan = plan-of f} {cs = choices-of choices} here;
-      };
-      few = omega (arith, facts .bounds .records);
-      few-moved = omega arith;
-      ended = refl;
+      ended = tt;
     }
+
+-- one entry more at the front of the room
+pub front-next : (starts room : List ℕ) (a : ℕ) → a < length room → ((i : ℕ) → i < a → getD room i 0 ≡ getD starts i 0) → (i : ℕ) → i < a + 1 → getD (set room a (getD starts a 0)) i 0 ≡ getD starts i 0
+front-next starts room a h w i l = elim (ℕᴺ-discrete i a) [
+  | yes e ↦ rw e (getD-set-same room a (getD starts a 0) 0 h)
+  | no e ↦ getD-set-other room a i (getD starts a 0) 0 e ∙ w i (omega arith)
+]
 
 -- what opening found in a file of which the run may begin
 module _ (f : List ℕ) (o : Opened) (choices own others latest : List ℕ) (r : Ready f o choices own others latest) where
@@ -148,3 +163,6 @@ module _ (f : List ℕ) (o : Opened) (choices own others latest : List ℕ) (r :
 
   pub ready-starts : Starts f (o .«array_starts»)
   ready-starts = record { first = array-start f o ready-found (ready-facts .bounds) }
+
+  pub ready-front : (room : List ℕ) → Fronted (o .«array_starts») room → Starts f room
+  ready-front room w = record { first = λ a h. w .front a (omega (arith, ready-facts .bounds .header .arrays .1)) ∙ ready-starts .first a h }

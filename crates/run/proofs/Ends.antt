@@ -22,8 +22,8 @@ use Rattle.run.specs.Running.{Lent, lent, run-rows, memory, holding, no-
 use Rattle.machine.specs.Choices.{choices-of}
 use Rattle.acts.specs.Memories.{number-of}
 use Rattle.acts.specs.Inner.Acting.{Same}
-use Rattle.machine.specs.Inner.Standing.{Runner, Ended, Reaches}
-use Rattle.run.specs.Inner.Beginning.{end-with, tally-with}
+use Rattle.machine.specs.Inner.Standing.{Runner, said-of, Over, Reaches}
+use Rattle.run.specs.Inner.Beginning.{end-with}
 
 -- a memory whose first n cells are as `held` says and whose others are as they were
 module _ (n : ℕ) (held : ℕ → ℕ) (before after : List ℕ) (room : n ≤ length before) (same : Same n before after) (here : (c : ℕ) → c < n → getD after c 0 ≡ held c) where
@@ -44,7 +44,7 @@ module _ (n : ℕ) (held : ℕ → ℕ) (before after : List ℕ) (room : n ≤ 
   memory-is = ext-getD 0 after (table held n ++ drop n before) size (λ c h. entry c)
 
 -- a run that has ended, from memories h, c and l and a tally t
-module _ (f choices : List ℕ) (m : Runner) (own others latest : List ℕ) (w : Reaches f choices m own others latest) (still : m .running ≡ false)
+module _ (f choices : List ℕ) (m : Runner) (own others latest : List ℕ) (u : Tally) (w : Reaches f choices m own others latest u) (still : m .running ≡ false)
     (h c l : List ℕ) (t : Tally) (sh : Same (cells (arrays-of f)) h own) (sc : Same (cells (arrays-of f)) c others) (sl : Same (cells (arrays-of f)) l latest)
     (answer : End) (q : answer ≡ end-with (length (arrays-of f)) (w .config .state .flag host) (w .config .state .flag card) (m .place .used) (m .verdict)) where
   abbrev k : Config
@@ -53,28 +53,30 @@ module _ (f choices : List ℕ) (m : Runner) (own others latest : List ℕ) (w :
   abbrev arrays : Arrays
   arrays = arrays-of f
 
-  last-lent : lent own others latest (tally-with (m .stored)) ≡ holding arrays k (lent h c l t)
+  last-lent : lent own others latest u ≡ holding arrays k (lent h c l t)
   last-lent =
-      let a = memory-is (cells arrays) (λ i. number-of (k .state .held host i)) h own (omega (arith, w .holds .own-room, sh .size)) sh (w .holds .own-held) in
-      let b = memory-is (cells arrays) (λ i. number-of (k .state .held card i)) c others (omega (arith, w .holds .others-room, sc .size)) sc (w .holds .others-held) in
-      let d = memory-is (cells arrays) (k .state .latest) l latest (omega (arith, w .holds .latest-room, sl .size)) sl (w .holds .latest-held) in
-      λ i. record { host = a i; card = b i; latest = d i; tally = record { reads = w .holds .reads i; writes = w .holds .writes i; moved = w .holds .moved i } }
+      let a = memory-is (cells arrays) (λ i. number-of (k .state .held host i)) h own (omega (arith, w .stands .holds .own-room, sh .size)) sh (w .stands .holds .own-held) in
+      let b = memory-is (cells arrays) (λ i. number-of (k .state .held card i)) c others (omega (arith, w .stands .holds .others-room, sc .size)) sc (w .stands .holds .others-held) in
+      let d = memory-is (cells arrays) (k .state .latest) l latest (omega (arith, w .stands .holds .latest-room, sl .size)) sl (w .stands .holds .latest-held) in
+      λ i. record { host = a i; card = b i; latest = d i; tally = record { reads = w .stands .holds .reads i; writes = w .stands .holds .writes i; moved = w .stands .holds .moved i } }
 
   used-is : m .place .used ≡ length (choices-of choices) - length (k .choices)
-  used-is = rw (w .choices-left, length-map, length-map, length-drop) (omega (arith, w .used))
+  used-is = rw (w .stands .choices-left, length-map, length-map, length-drop) (omega (arith, w .stands .used))
 
-  ran-as : (e : Ending) → step arrays k ≡ Step.ends e → answer ≡ end-of arrays (choices-of choices) k e → Ran f choices (lent h c l t) (lent own others latest (tally-with (m .stored))) answer
+  ran-as : (e : Ending) → step arrays k ≡ Step.ends e → answer ≡ end-of arrays (choices-of choices) k e → Ran f choices (lent h c l t) (lent own others latest u) answer
   unfolding plan-of
   ran-as e s a = record { config = k; ending = e; ends = record { run = w .run; last = s }; holds = last-lent; answers = a }
 
-  pub ran : Ran f choices (lent h c l t) (lent own others latest (tally-with (m .stored))) answer
-  ran = go (m .verdict) (rw still at (w .ended)) q
+  pub ran : Ran f choices (lent h c l t) (lent own others latest u) answer
+  ran = go (over .ending) (over .last) (q ∙ ap (end-with (length arrays) (k .state .flag host) (k .state .flag card) (m .place .used)) (over .says))
     where
-      go : (v : Verdict) → Ended f k false v → answer ≡ end-with (length arrays) (k .state .flag host) (k .state .flag card) (m .place .used) v →
-          Ran f choices (lent h c l t) (lent own others latest (tally-with (m .stored))) answer
-      go Accepted s a = ran-as finished s (a ∙ ap (λ u. end-with (length arrays) (k .state .flag host) (k .state .flag card) u Accepted) used-is)
-      go (Stopped r d) s a = ran-as (stopped (r .0) (d .0)) s a
-      go (Refused number r) s a = ran-as (out-of-choices r) (s .1) (rw (s .0) at a)
+      over : Over f k (m .verdict)
+      over = rw still at (w .ended)
+
+      go : (e : Ending) → step arrays k ≡ Step.ends e → answer ≡ end-with (length arrays) (k .state .flag host) (k .state .flag card) (m .place .used) (said-of e) → Ran f choices (lent h c l t) (lent own others latest u) answer
+      go finished s a = ran-as finished s (a ∙ ap (λ v. end-with (length arrays) (k .state .flag host) (k .state .flag card) v Accepted) used-is)
+      go (stopped r d) s a = ran-as (stopped r d) s a
+      go (out-of-choices r) s a = ran-as (out-of-choices r) s a
 
 -- a refusal before the run
 module _ (f choices : List ℕ) (b : Lent) where

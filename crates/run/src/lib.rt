@@ -9,7 +9,6 @@ use running::end_of;
 use running::no_end;
 use running::ready;
 use running::run_to_end;
-use running::tally_of;
 
 mod running;
 
@@ -49,10 +48,12 @@ pub fn run_opened(
             tally: tally,
         };
     };
-    let m = run_to_end(plan, o, choices, host, card, latest);
+    let s = run_to_end(plan, o, choices, host, card, latest);
+    let m = s.machine;
+    let t = s.tally;
     Counted {
         end: end_of(m),
-        tally: tally_of(m),
+        tally: t,
     }
 }
 

@@ -2,25 +2,28 @@
 ghost use mathlib.Core.Path.{_≡_};
 ghost use mathlib.Core.Bool.{Bool, true, false};
 ghost use Prim.Native.Nat.{ℕ, _≤_};
+ghost use lib.ListN.{length};
 ghost use Rattle.model.specs.declared.Tally.{Tally};
 ghost use Rattle.model.specs.Sides.{cells};
 ghost use Rattle.model.specs.Rows.{first};
 ghost use Rattle.reading.specs.Bytes.{arrays-of};
 ghost use Rattle.format.specs.Opening.{opened};
-ghost use Rattle.run.specs.Running.{lent, run-rows, no-end};
 ghost use Rattle.acts.specs.Flags.{mask};
 ghost use Rattle.acts.specs.Inner.Acting.{Room, Changed, Same};
-ghost use Rattle.run.specs.Inner.Beginning.{first-machine, end-with, tally-with, ReachesEnd, Ready};
+ghost use Rattle.machine.specs.Inner.Standing.{runner, Reaches};
+ghost use Rattle.run.specs.Running.{lent, run-rows, no-end};
+ghost use Rattle.run.specs.Inner.Beginning.{Fronted, first-machine, end-with, ReachesEnd, Ready};
 use crate::End;
-use acts::Stored;
 use acts::flags::all_flags;
 use acts::flags::flags_set;
 use acts::memories::fill;
 use contents::Opened;
 use machine::Machine;
-use machine::place::LEVELS;
+use machine::Stepped;
+use machine::place::ROOM;
 use machine::place::first_place;
-use machine::step;
+use machine::step_lent;
+use model::Record;
 use model::Tally;
 use model::Verdict;
 
@@ -68,22 +71,74 @@ fn write_start(host: &mut [u64], card: &mut [u64], latest: &mut [u64], cells: us
     fill(latest, 0, cells, 0);
 }
 
+// Puts the first cells of the arrays at the front of the room.
+fn put_starts(starts: &[u16; 33], room: &mut [u16])
+    requires { ⌜ length (now room) ≡ 65 ⌝ }
+    ensures { λ _. ⌜ Fronted (now (starts .entry)) (now (room .exit)) ⌝ }
+{
+    let mut a = 0usize;
+    while a < 33 {
+        room[a] = starts[a];
+        a += 1;
+    }
+}
+
 // Before the first record.
-fn first_machine(records: u16, arrays: u8) -> Machine
+fn first_machine(records: u16, arrays: u8, bodies: usize) -> Machine
     requires { ⌜ arrays ≤ 32 ⌝ }
-    ensures { λ r. ⌜ r ≡ first-machine records arrays ⌝ }
+    ensures { λ r. ⌜ r ≡ first-machine records arrays bodies ⌝ }
 {
     Machine {
         place: first_place(records),
-        stored: Stored {
-            flags: all_flags(arrays),
-            other_flags: 0,
-            reads: 0,
-            writes: 0,
-            moved: 0,
-        },
+        flags: all_flags(arrays),
+        other_flags: 0,
+        bodies: bodies,
+        last: Record(0),
         verdict: Verdict::Accepted,
         running: true,
+    }
+}
+
+// The steps of a run, to its end. The tally is lent, and each step brings it up to date.
+pub fn run_lent(
+    m: Machine,
+    plan: &[u8],
+    choices: &[u8],
+    host: &mut [u64],
+    card: &mut [u64],
+    latest: &mut [u64],
+    room: &mut [u16],
+    tally: &mut Tally,
+) -> Machine
+    requires { ⌜ Reaches (now plan) (now choices) (runner m (now room)) (now host) (now card) (now latest) (now tally) ⌝ }
+    ensures { λ r. ⌜ Reaches (now (plan .entry)) (now (choices .entry)) (runner r (now (room .exit))) (now (host .exit)) (now (card .exit)) (now (latest .exit)) (now (tally .exit)) × (r .running ≡ false) × Same (cells (arrays-of (now (plan .entry)))) (now (host .entry)) (now (host .exit)) × Same (cells (arrays-of (now (plan .entry)))) (now (card .entry)) (now (card .exit)) × Same (cells (arrays-of (now (plan .entry)))) (now (latest .entry)) (now (latest .exit)) ⌝ }
+{
+    let mut n = m;
+    while n.running {
+        n = step_lent(n, plan, choices, host, card, latest, room, tally);
+    }
+    n
+}
+
+// The same with the tally by value: whoever calls this needs no proof by hand.
+fn run_steps(
+    m: Machine,
+    plan: &[u8],
+    choices: &[u8],
+    host: &mut [u64],
+    card: &mut [u64],
+    latest: &mut [u64],
+    room: &mut [u16],
+    t: Tally,
+) -> Stepped
+    requires { ⌜ Reaches (now plan) (now choices) (runner m (now room)) (now host) (now card) (now latest) t ⌝ }
+    ensures { λ r. ⌜ Reaches (now (plan .entry)) (now (choices .entry)) (runner (r .machine) (now (room .exit))) (now (host .exit)) (now (card .exit)) (now (latest .exit)) (r .tally) × (r .machine .running ≡ false) × Same (cells (arrays-of (now (plan .entry)))) (now (host .entry)) (now (host .exit)) × Same (cells (arrays-of (now (plan .entry)))) (now (card .entry)) (now (card .exit)) × Same (cells (arrays-of (now (plan .entry)))) (now (latest .entry)) (now (latest .exit)) ⌝ }
+{
+    let mut u = t;
+    let n = run_lent(m, plan, choices, host, card, latest, room, &mut u);
+    Stepped {
+        machine: n,
+        tally: u,
     }
 }
 
@@ -95,35 +150,25 @@ pub fn run_to_end(
     host: &mut [u64],
     card: &mut [u64],
     latest: &mut [u64],
-) -> Machine
+) -> Stepped
     requires { ⌜ Ready (now plan) o (now choices) (now host) (now card) (now latest) ⌝ }
-    ensures reaches { λ r. ⌜ ReachesEnd (now (plan .entry)) (now (choices .entry)) r (now (host .exit)) (now (card .exit)) (now (latest .exit)) ⌝ }
-    ensures ended { λ r. ⌜ r .running ≡ false ⌝ }
+    ensures reaches { λ r. ⌜ ReachesEnd (now (plan .entry)) (now (choices .entry)) (r .machine) (now (host .exit)) (now (card .exit)) (now (latest .exit)) (r .tally) ⌝ }
+    ensures ended { λ r. ⌜ r .machine .running ≡ false ⌝ }
     ensures host { λ _. ⌜ Same (cells (arrays-of (now (plan .entry)))) (now (host .entry)) (now (host .exit)) ⌝ }
     ensures card { λ _. ⌜ Same (cells (arrays-of (now (plan .entry)))) (now (card .entry)) (now (card .exit)) ⌝ }
     ensures latest { λ _. ⌜ Same (cells (arrays-of (now (plan .entry)))) (now (latest .entry)) (now (latest .exit)) ⌝ }
 {
-    let bodies = o.offset as usize;
     let starts = o.array_starts;
+    let mut room = [0u16; ROOM];
+    put_starts(&starts, &mut room);
     write_start(host, card, latest, o.cells as usize);
-    let mut m = first_machine(o.records, o.arrays);
-    let mut ends = [0u16; LEVELS];
-    let mut backs = [0u16; LEVELS];
-    while m.running {
-        m = step(
-            m,
-            plan,
-            bodies,
-            &starts,
-            choices,
-            host,
-            card,
-            latest,
-            &mut ends,
-            &mut backs,
-        );
-    }
-    m
+    let m = first_machine(o.records, o.arrays, o.offset as usize);
+    let nothing = Tally {
+        reads: 0,
+        writes: 0,
+        moved: 0,
+    };
+    run_steps(m, plan, choices, host, card, latest, &mut room, nothing)
 }
 
 // An answer without figures.
@@ -142,32 +187,19 @@ pub fn no_end(v: Verdict) -> End
 
 // What the end of a run answers.
 pub fn end_of(m: Machine) -> End
-    ensures { λ r. ⌜ ((n : ℕ) (host card : ℕ → Bool) → m .stored .flags ≡ mask n host → m .stored .«other_flags» ≡ mask n card → r ≡ end-with n host card (m .place .used) (m .verdict)) ⌝ }
+    ensures { λ r. ⌜ ((n : ℕ) (host card : ℕ → Bool) → m .flags ≡ mask n host → m .«other_flags» ≡ mask n card → r ≡ end-with n host card (m .place .used) (m .verdict)) ⌝ }
 {
     let v = m.verdict;
     let Verdict::Accepted = v else {
         return no_end(v);
     };
     let p = m.place;
-    let s = m.stored;
     End {
         verdict: Verdict::Accepted,
         used: p.used,
-        host_flags: s.flags,
-        card_flags: s.other_flags,
-        on_host: flags_set(s.flags),
-        on_card: flags_set(s.other_flags),
-    }
-}
-
-// The tally of a run.
-pub fn tally_of(m: Machine) -> Tally
-    ensures { λ r. ⌜ r ≡ tally-with (m .stored) ⌝ }
-{
-    let s = m.stored;
-    Tally {
-        reads: s.reads,
-        writes: s.writes,
-        moved: s.moved,
+        host_flags: m.flags,
+        card_flags: m.other_flags,
+        on_host: flags_set(m.flags),
+        on_card: flags_set(m.other_flags),
     }
 }

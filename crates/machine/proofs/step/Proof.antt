@@ -1,4 +1,6 @@
--- `step` is at most one step of the run, it lowers the measure, and it leaves the cells past the plan's.
+-- `step` is one step of the definition of a run, it lowers the measure, and it leaves the cells past the plan's.
+use mathlib.Core.Path.{ap, _∙_}
+use mathlib.Core.List.{[]}
 use Prim.Native.Nat.{_+_, _≤_, _<_}
 use native.Mathlib.Omega.{arith}
 use lib.ListN.{getD}
@@ -6,75 +8,87 @@ use Rattle.model.specs.Sides.{cells}
 use Rattle.reading.specs.Bytes.{array-count, arrays-of}
 use Rattle.format.proofs.Walking.{opened-facts}
 use Rattle.format.proofs.Acts.{record-inside}
-use Rattle.machine.specs.Inner.Standing.{from-of, to-of}
 use Rattle.acts.proofs.Cells.{same-all, same-more}
+use Rattle.machine.specs.Inner.Standing.{Spot, runner, settled, stored-with, from-of, to-of}
 use Rattle.machine.proofs.Records.{on-array}
-use Rattle.machine.proofs.Steps.{fits-inside, record-fits, kind-is, not-deep, Able, at-arm-end, at-test, able, at-record}
+use Rattle.machine.proofs.Steps.{fits-inside, record-fits, kind-is, not-deep, Able, at-end, at-test, able, at-record, ensured}
 use borrow.Author.Needs.{needs}
 use Rattle.machine.proofs.step.Statement.{statement}
 use Rattle.machine.proofs.step.Tie as tie
+use Rattle.machine.proofs.step.Reads as reads
+use Rattle.machine.proofs.step.Lts as lts
+use Rattle.acts.proofs.act.Reads as act-reads
+use Rattle.reading.proofs.record_at.Reads as record-at-reads
+use Rattle.machine.proofs.acted_on.Reads as acted-on-reads
+use Rattle.machine.proofs.ended.Reads as ended-reads
+use Rattle.machine.proofs.first_cell.Reads as first-cell-reads
+use Rattle.machine.proofs.moved.Reads as moved-reads
+use Rattle.machine.proofs.next_cell.Reads as next-cell-reads
+use Rattle.machine.proofs.past.Reads as past-reads
+use Rattle.machine.proofs.place.settle.Reads as settle-reads
+use Rattle.machine.proofs.tally_of.Reads as tally-of-reads
+use Rattle.machine.proofs.test.Reads as test-reads
 
 -- the place is before the end of its arm
-before-end : (c : tie.Else1) → c .before .before .before .before .before .before .before .before .args .m .place .at < c .before .before .before .before .before .before .before .before .args .m .place .end
-before-end c = omega (arith, c .before .before .before .before .before .before .before .before .pre .4 .placed .here .order, c .if1 .left)
+before-end : (c : tie.Else1) → c .before .before .before .before .before .before .before .before .before .args .m .place .at < c .before .before .before .before .before .before .before .before .before .args .m .place .end
+before-end c = omega (arith, c .before .before .before .before .before .before .before .before .before .pre .1 .stands .placed .here .order, c .if1 .left)
 
 -- a record of kind 1 to 5 is of an array of the plan
-array-there : (c : tie.After-struct-known4) → c .before .before .before .record-at .result .array < array-count (c .before .before .before .before .before .before .before .before .before .before .before .before .before .args .plan .now)
+array-there : (c : tie.After-struct-known4) → c .before .before .before .record-at .result .array < array-count (c .before .before .before .before .before .before .before .before .before .before .before .before .before .before .args .plan .now)
 array-there c =
-    let a = c .before .before .before .before .before .before .before .before .before .before .before .before .before in
+    let w = c .before .before .before .before .before .before .before .before .before .before .before .before .before .before .pre .1 .stands in
     let x = c .before .before .before .record-at in
     let h = before-end (c .before .before .before .before .before) in
-    let part = a .pre .4 .placed .here in
-    let low = kind-is _ _ (a .pre .2) _ _ _ part h _ (x .ensures) .0 in
-    on-array _ _ (a .pre .2) _ (record-fits _ _ (a .pre .2) _ _ _ part h _ (x .ensures)) (low, omega (arith, c .before .if2 .left)) .1
+    let low = kind-is _ _ (w .plain) _ _ _ (w .placed .here) h _ (x .ensures) .0 in
+    on-array _ _ (w .plain) _ (record-fits _ _ (w .plain) _ _ _ (w .placed .here) h _ (x .ensures)) (low, omega (arith, c .before .if2 .left)) .1
 
-abbrev Ready-here : tie.After-next → Type 0
-Ready-here c =
-    let a = c .before .before .before .before .before .before .before .before .before .before .before .before .before .before .before .args in
+abbrev Able-here : tie.After-slice-known7 → Type 0
+Able-here c =
+    let a = c .before .before .before .before .before .before .before .before .before .before .before .before .before .before .before .before .args in
     let x = c .before .before .before .before .before .record-at .result in
-    let first = getD (a .starts .now) (x .array) 0 in
-    let next = getD (a .starts .now) (x .array + 1) 0 in
-    Able (arrays-of (a .plan .now)) x (from-of x first) (to-of x first next) (a .m .stored) (a .m .place .at) (a .host .now) (a .card .now) (a .latest .now)
+    let first = getD (a .room .now) (x .array) 0 in
+    let next = getD (a .room .now) (x .array + 1) 0 in
+    Able (arrays-of (a .plan .now)) x (from-of x first) (to-of x first next) (stored-with (runner (a .m) (a .room .now)) (a .t)) (a .m .place .at) (a .host .now) (a .card .now) (a .latest .now)
 
-ready-here : (c : tie.After-next) → Ready-here c
-ready-here c =
-    let a = c .before .before .before .before .before .before .before .before .before .before .before .before .before .before .before in
-    let x = c .before .before .before .before .before .record-at in
-    let n = array-there (c .before .before) in
-    able _ _ _ _ _ _ (a .pre .4) (a .pre .0) _ (a .pre .2) (before-end (c .before .before .before .before .before .before .before)) _ (x .ensures) (omega (arith, c .before .before .before .if2 .left)) (a .pre .1) _ _ (a .pre .3 .first _ (omega arith)) (a .pre .3 .first _ (omega arith))
+able-here : (c : tie.After-slice-known7) → Able-here c
+able-here c =
+    let a = c .before .before .before .before .before .before .before .before .before .before .before .before .before .before .before .before in
+    let w = array-there (c .before .before) in
+    able _ _ _ _ _ _ _ (a .pre .0) _ (a .pre .1 .stands) (before-end (c .before .before .before .before .before .before .before)) _ (c .before .before .before .before .before .record-at .ensures) (omega (arith, c .before .before .before .if2 .left)) _ _ (a .pre .1 .stands .starts .first _ (omega arith)) (a .pre .1 .stands .starts .first _ (omega arith))
 
-arm-end-requires : tie.Need-arm-end-requires
-arm-end-requires c κs = c .before .before .before .before .before .before .before .before .before .before .pre .4 .placed .shallow
+ended-requires : tie.Need-ended-requires
+ended-requires c κs = search needs
 
 returns : tie.Need-returns
 returns c =
-    let a = c .before .before .before .before .before .before .before .before .before .before .before in
-    let q = at-arm-end _ _ _ _ _ _ (a .pre .4) (a .pre .0) (c .before .before .before .if1 .taken) _ (c .arm-end .ensures) in
-    (q .0, (q .1, (same-all _ _, (same-all _ _, same-all _ _))))
+    let a = c .before .before .before .before .before .before .before .before .before .before in
+    ensured _ _ _ _ _ _ _ _ _ _ _ _ _ (a .pre .1) (λ k w. at-end _ _ _ _ _ _ _ (a .pre .0) k w (c .before .if1 .taken) _ (c .ended .ensures (a .args .room .now))) (same-all _ _) (same-all _ _) (same-all _ _)
 
 cast-record-at : tie.Need-cast-record-at
 cast-record-at c = search needs
 
 record-at-requires : tie.Need-record-at-requires
 record-at-requires c κs =
-    let a = c .before .before .before .before .before .before .before .before .before in
+    let w = c .before .before .before .before .before .before .before .before .before .before .pre .1 .stands in
     let h = before-end (c .before) in
-    (a .pre .2 .place, record-inside _ _ (a .pre .2) _ (omega (arith, h, a .pre .4 .placed .here .inside)))
+    (w .plain .place, record-inside _ _ (w .plain) _ (omega (arith, h, w .placed .here .inside)))
 
 test-requires : tie.Need-test-requires
 test-requires c κs =
-    let a = c .before .before .before .before .before .before .before .before .before .before .before .before .before .before in
-    let x = c .before .before .before .before .record-at in
-    let h = before-end (c .before .before .before .before .before .before) in
-    let part = a .pre .4 .placed .here in
-    let n = fits-inside _ _ (a .pre .2) _ _ _ part h _ (x .ensures) in
-    (not-deep _ _ (a .pre .2) _ _ _ part h _ (x .ensures) (c .before .before .if2 .taken), a .pre .4 .used, a .pre .1, omega (arith, n, part .inside, opened-facts _ (a .pre .2 .opens) .bounds .records))
+    let w = c .before .before .before .before .before .before .before .before .before .before .before .before .before .before .pre .1 .stands in
+    let x = c .before .before .before .record-at in
+    let h = before-end (c .before .before .before .before .before) in
+    let part = w .placed .here in
+    let n = fits-inside _ _ (w .plain) _ _ _ part h _ (x .ensures) in
+    (not-deep _ _ (w .plain) _ _ _ part h _ (x .ensures) (c .before .if2 .taken), w .used, w .many, w .placed .size, omega (arith, n, part .inside, opened-facts _ (w .plain .opens) .bounds .records))
+
+same-length : tie.Need-same-length
+same-length c = search needs
 
 returns-2 : tie.Need-returns-2
 returns-2 c =
-    let a = c .before .before .before .before .before .before .before .before .before .before .before .before .before .before .before in
-    let q = at-test _ _ _ _ _ _ (a .pre .4) (a .pre .0) _ (a .pre .2) (before-end (c .before .before .before .before .before .before .before)) _ (c .before .before .before .before .before .record-at .ensures) (c .before .before .before .if2 .taken) _ (c .test .ensures) in
-    (q .0, (q .1, (same-all _ _, (same-all _ _, same-all _ _))))
+    let a = c .before .before .before .before .before .before .before .before .before .before .before .before .before .before .before .before .before in
+    ensured _ _ _ _ _ _ _ _ _ _ _ _ _ (a .pre .1) (λ k w. at-test _ _ _ _ _ _ _ (a .pre .0) k w (before-end (c .before .before .before .before .before .before .before .before)) _ (c .before .before .before .before .before .before .record-at .ensures) (c .before .before .before .before .if2 .taken) _ (c .before .before .test .ensures)) (same-all _ _) (same-all _ _) (same-all _ _)
 
 cast-a : tie.Need-cast-a
 cast-a c = search needs
@@ -82,8 +96,8 @@ cast-a c = search needs
 mul-first : tie.Need-mul-first
 mul-first c = search needs
 
-element-copy-out-first : tie.Need-element-copy-out-first
-element-copy-out-first c = omega (arith, array-there c, opened-facts _ (c .before .before .before .before .before .before .before .before .before .before .before .before .before .pre .2 .opens) .bounds .header .arrays)
+slice-read-first : tie.Need-slice-read-first
+slice-read-first c = let w = c .before .before .before .before .before .before .before .before .before .before .before .before .before .before .before .pre .1 .stands in omega (arith, array-there (c .before), opened-facts _ (w .plain .opens) .bounds .header .arrays, w .placed .size)
 
 add-next : tie.Need-add-next
 add-next c = search needs
@@ -91,57 +105,49 @@ add-next c = search needs
 mul-next : tie.Need-mul-next
 mul-next c = search needs
 
-element-copy-out-next : tie.Need-element-copy-out-next
-element-copy-out-next c = omega (arith, array-there (c .before), opened-facts _ (c .before .before .before .before .before .before .before .before .before .before .before .before .before .before .pre .2 .opens) .bounds .header .arrays)
+slice-read-next : tie.Need-slice-read-next
+slice-read-next c = let w = c .before .before .before .before .before .before .before .before .before .before .before .before .before .before .before .before .pre .1 .stands in omega (arith, array-there (c .before .before), opened-facts _ (w .plain .opens) .bounds .header .arrays, w .placed .size)
 
 first-cell-requires : tie.Need-first-cell-requires
-first-cell-requires c κs = let r = ready-here c in omega (arith, r .rooms .few, r .rooms .in-own .order)
+first-cell-requires c κs = let r = able-here c in omega (arith, r .rooms .few, r .rooms .in-own .order)
 
 next-cell-requires : tie.Need-next-cell-requires
-next-cell-requires c κs = let r = ready-here (c .before) in omega (arith, r .rooms .few)
+next-cell-requires c κs = let r = able-here (c .before) in omega (arith, r .rooms .few)
+
+acted-on-requires : tie.Need-acted-on-requires
+acted-on-requires c κs = search needs
 
 act-requires : tie.Need-act-requires
 act-requires c κs =
-    let r = ready-here (c .before .before .before .before .before .before) in
-    (r .low, r .kind .0, r .kind .1, r .array, rw (c .before .before .before .before .before .first-cell .ensures, c .before .before .before .before .next-cell .ensures) (r .rooms))
+    let r = able-here (c .before .before .before .before .before .before) in
+    (rw (c .before .before .before .acted-on .ensures (c .before .before .before .before .before .before .before .before .before .before .before .before .before .before .before .before .before .before .before .before .before .before .args .room .now)) (r .low), r .kind .0, r .kind .1, r .array, rw (c .before .before .before .before .before .first-cell .ensures, c .before .before .before .before .next-cell .ensures) (r .rooms))
 
-enum-known-t : tie.Need-enum-known-t
-enum-known-t c = search needs
+enum-known-s : tie.Need-enum-known-s
+enum-known-s c = search needs
 
 past-requires : tie.Need-past-requires
-past-requires c κs = ready-here (c .before .before .before .before .before .before .before .before .before .before .before .before .before .before .before .before) .few
+past-requires c κs = able-here (c .before .before .before .before .before .before .before .before .before .before .before .before .before .before .before .before) .few
+
+settle-requires : tie.Need-settle-requires
+settle-requires c κs = let w = c .before .before .before .before .before .before .before .before .before .before .before .before .before .before .before .before .before .before .before .before .before .before .before .before .before .before .before .before .before .before .before .before .before .before .pre .1 .stands .placed in (rw (ap (λ (x : Spot). x .depth) (c .before .past .ensures [])) (w .shallow), w .size)
 
 moved-requires : tie.Need-moved-requires
 moved-requires c κs = search needs
 
+tally-of-requires : tie.Need-tally-of-requires
+tally-of-requires c κs = search needs
+
 enum-known-c : tie.Need-enum-known-c
 enum-known-c c = search needs
 
-ended-requires : tie.Need-ended-requires
-ended-requires c κs = search needs
-
-same-length : tie.Need-same-length
-same-length c = search needs
+ended-requires-2 : tie.Need-ended-requires-2
+ended-requires-2 c κs = search needs
 
 same-length-2 : tie.Need-same-length-2
-same-length-2 c = search needs
+same-length-2 c = c .before .before .before .before .before .before .before .before .before .before .before .before .before .before .act .ensures .1 .0 .size
 
 same-length-3 : tie.Need-same-length-3
-same-length-3 c = search needs
-
-returns-3 : tie.Need-returns-3
-returns-3 c =
-    let a = c .before .before .before .before .before .before .before .before .before .before .before .before .before .before .before .before .before .before .before .before .before .before .before .before .before .before .before .before .before .before .before .before .before in
-    let n = c .before .before .before .before .before .before .before .before .before .before .before .before .before .before .before .before .before .before in
-    let r = ready-here n in
-    let x = n .before .before .before .before .before .record-at in
-    let v = c .before .before .before .before .before .before .before .before .before .before .before .act in
-    let w = array-there (n .before .before) in
-    let acts = v .ensures .0 (arrays-of (a .args .plan .now)) (rw (c .before .before .before .before .before .before .before .before .before .before .before .before .before .before .before .before .before .first-cell .ensures, c .before .before .before .before .before .before .before .before .before .before .before .before .before .before .before .before .next-cell .ensures) (r .spans)) in
-    let q = at-record _ _ _ _ _ _ (a .pre .4) (a .pre .0) _ (a .pre .2) (before-end (n .before .before .before .before .before .before .before)) _ (x .ensures) (r .kind .1) (a .pre .1) _ _ (a .pre .3 .first _ (omega arith)) (a .pre .3 .first _ (omega arith)) (v .result) _ _ _ acts in
-    let i : c .before .before .before .before .before .before .before .before .before .before .before .before .before .before .before .before .next-cell .result ≤ cells (arrays-of (a .args .plan .now)) = rw (c .before .before .before .before .before .before .before .before .before .before .before .before .before .before .before .before .next-cell .ensures) (r .inside) in
-    let t = rw (c .before .before .before .t .given .1) at q in
-    (rw (c .moved .ensures _ _, c .before .past .ensures _ _) (t .0), (rw (c .moved .ensures _ _, c .before .past .ensures _ _) (t .1), (same-more i (v .ensures .1 .0), (same-more i (v .ensures .1 .1 .0), same-more i (v .ensures .1 .1 .1)))))
+same-length-3 c = c .before .before .before .before .before .before .before .before .before .before .before .before .before .before .act .ensures .1 .1 .0 .size
 
 same-length-4 : tie.Need-same-length-4
 same-length-4 c = search needs
@@ -149,52 +155,79 @@ same-length-4 c = search needs
 same-length-5 : tie.Need-same-length-5
 same-length-5 c = search needs
 
+returns-3 : tie.Need-returns-3
+returns-3 c =
+    let a = c .before .before .before .before .before .before .before .before .before .before .before .before .before .before .before .before .before .before .before .before .before .before .before .before .before .before .before .before .before .before .before .before .before .before .before .before .before in
+    let n = c .before .before .before .before .before .before .before .before .before .before .before .before .before .before .before .before .before .before .before .before .before in
+    let r = able-here n in
+    let x = c .before .before .before .before .before .before .before .before .before .before .before .before .before .before .before .before .before .before .before .before .before .before .before .before .before .before .record-at in
+    let v = c .before .before .before .before .before .before .before .before .before .before .before .before .before .before .act in
+    let there = array-there (c .before .before .before .before .before .before .before .before .before .before .before .before .before .before .before .before .before .before .before .before .before .before .before) in
+    let acts = v .ensures .0 (arrays-of (a .args .plan .now)) (rw (c .before .before .before .before .before .before .before .before .before .before .before .before .before .before .before .before .before .before .before .before .first-cell .ensures, c .before .before .before .before .before .before .before .before .before .before .before .before .before .before .before .before .before .before .before .next-cell .ensures) (r .spans)) in
+    let held = rw (c .before .before .before .before .before .before .before .before .before .before .before .before .before .before .before .before .before .before .acted-on .ensures (a .args .room .now)) at acts in
+    let i : c .before .before .before .before .before .before .before .before .before .before .before .before .before .before .before .before .before .before .before .next-cell .result ≤ cells (arrays-of (a .args .plan .now)) = rw (c .before .before .before .before .before .before .before .before .before .before .before .before .before .before .before .before .before .before .before .next-cell .ensures) (r .inside) in
+    ensured _ _ _ _ _ _ _ _ _ _ _ _ _ (a .pre .1)
+    (λ k w. rw (c .before .moved .ensures (a .args .room .now), c .before .before .settle .ensures ∙ ap settled (c .before .before .before .before .past .ensures (a .args .room .now)), c .tally-of .ensures) (rw (c .before .before .before .before .before .before .s .given .1) at (at-record _ _ _ _ _ _ _ (a .pre .0) k w (before-end (c .before .before .before .before .before .before .before .before .before .before .before .before .before .before .before .before .before .before .before .before .before .before .before .before .before .before .before .before)) _ (x .ensures) (r .kind .1) _ _ (a .pre .1 .stands .starts .first _ (omega arith)) (a .pre .1 .stands .starts .first _ (omega arith)) (v .result) _ _ _ held)))
+    (same-more i (v .ensures .1 .0)) (same-more i (v .ensures .1 .1 .0)) (same-more i (v .ensures .1 .1 .1))
+
 same-length-6 : tie.Need-same-length-6
 same-length-6 c = search needs
 
+same-length-7 : tie.Need-same-length-7
+same-length-7 c = search needs
+
+same-length-8 : tie.Need-same-length-8
+same-length-8 c = search needs
+
 returns-4 : tie.Need-returns-4
 returns-4 c =
-    let a = c .before .before .before .before .before .before .before .before .before .before .before .before .before .before .before .before .before .before .before .before .before .before .before .before .before .before .before .before .before .before .before .before in
+    let a = c .before .before .before .before .before .before .before .before .before .before .before .before .before .before .before .before .before .before .before .before .before .before .before .before .before .before .before .before .before .before .before .before .before in
     let n = c .before .before .before .before .before .before .before .before .before .before .before .before .before .before .before .before .before in
-    let r = ready-here n in
-    let x = n .before .before .before .before .before .record-at in
+    let r = able-here n in
+    let x = c .before .before .before .before .before .before .before .before .before .before .before .before .before .before .before .before .before .before .before .before .before .before .record-at in
     let v = c .before .before .before .before .before .before .before .before .before .before .act in
-    let w = array-there (n .before .before) in
+    let there = array-there (c .before .before .before .before .before .before .before .before .before .before .before .before .before .before .before .before .before .before .before) in
     let acts = v .ensures .0 (arrays-of (a .args .plan .now)) (rw (c .before .before .before .before .before .before .before .before .before .before .before .before .before .before .before .before .first-cell .ensures, c .before .before .before .before .before .before .before .before .before .before .before .before .before .before .before .next-cell .ensures) (r .spans)) in
-    let q = at-record _ _ _ _ _ _ (a .pre .4) (a .pre .0) _ (a .pre .2) (before-end (n .before .before .before .before .before .before .before)) _ (x .ensures) (r .kind .1) (a .pre .1) _ _ (a .pre .3 .first _ (omega arith)) (a .pre .3 .first _ (omega arith)) (v .result) _ _ _ acts in
+    let held = rw (c .before .before .before .before .before .before .before .before .before .before .before .before .before .before .acted-on .ensures (a .args .room .now)) at acts in
     let i : c .before .before .before .before .before .before .before .before .before .before .before .before .before .before .before .next-cell .result ≤ cells (arrays-of (a .args .plan .now)) = rw (c .before .before .before .before .before .before .before .before .before .before .before .before .before .before .before .next-cell .ensures) (r .inside) in
-    let t = rw (c .before .before .c .given .1) at q in
-    (rw (c .ended .ensures _ _) (t .0), (rw (c .ended .ensures _ _) (t .1), (same-more i (v .ensures .1 .0), (same-more i (v .ensures .1 .1 .0), same-more i (v .ensures .1 .1 .1)))))
+    ensured _ _ _ _ _ _ _ _ _ _ _ _ _ (a .pre .1)
+    (λ k w. rw (c .ended2 .ensures (a .args .room .now)) (rw (c .before .before .c .given .1) at (at-record _ _ _ _ _ _ _ (a .pre .0) k w (before-end (c .before .before .before .before .before .before .before .before .before .before .before .before .before .before .before .before .before .before .before .before .before .before .before .before)) _ (x .ensures) (r .kind .1) _ _ (a .pre .1 .stands .starts .first _ (omega arith)) (a .pre .1 .stands .starts .first _ (omega arith)) (v .result) _ _ _ held)))
+    (same-more i (v .ensures .1 .0)) (same-more i (v .ensures .1 .1 .0)) (same-more i (v .ensures .1 .1 .1))
 
 pub step-spec : {M : Type 1} → statement M
 step-spec =
     tie.close
     (tie.spec
-    arm-end-requires
+    ended-requires
     returns
     cast-record-at
     record-at-requires
     test-requires
+    same-length
     returns-2
     cast-a
     mul-first
-    element-copy-out-first
+    slice-read-first
     add-next
     mul-next
-    element-copy-out-next
+    slice-read-next
     first-cell-requires
     next-cell-requires
+    acted-on-requires
     act-requires
-    enum-known-t
+    enum-known-s
     past-requires
+    settle-requires
     moved-requires
+    tally-of-requires
     enum-known-c
-    ended-requires
-    same-length
+    ended-requires-2
     same-length-2
     same-length-3
-    returns-3
     same-length-4
     same-length-5
+    returns-3
     same-length-6
+    same-length-7
+    same-length-8
     returns-4)

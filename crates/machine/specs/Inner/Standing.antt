@@ -5,44 +5,57 @@ use mathlib.Core.Bool.{Bool, true, false, cond}
 use mathlib.Core.List.{List}
 use lib.Dec.{leb, eqb}
 use lib.ListN.{length, getD, set, drop}
+use Rattle.model.specs.declared.Record.{Record}
 use Rattle.model.specs.declared.Verdict.{Verdict}
-use Rattle.model.specs.declared.Verdict.the-variants.{Accepted, Stopped, Refused}
+use Rattle.model.specs.declared.Verdict.the-variants.{Accepted, Refused}
+use Rattle.model.specs.declared.Tally.{Tally}
 use Rattle.model.specs.Sides.{host}
 use Rattle.model.specs.Blocks.{Block, _then_}
-use Rattle.model.specs.Runs.{Config, Step, finished, stopped, out-of-choices, step, Run, tally}
+use Rattle.model.specs.Runs.{Config, Ending, Step, finished, stopped, out-of-choices, step, Run, tally}
+use Rattle.model.specs.Verdicts.{stop}
 use Rattle.reading.specs.declared.Fields.{Fields}
 use Rattle.reading.specs.Bytes.{arrays-of, record-count, first-arm, second-arm}
 use Rattle.format.specs.Plans.{plan-of}
-use Rattle.format.specs.Inner.Walks.{Good, block-between}
+use Rattle.format.specs.Inner.Walks.{Plain, Starts, Good, block-between}
 use Rattle.acts.specs.declared.Stored.{Stored}
 use Rattle.machine.specs.declared.place.Place.{Place}
 use Rattle.machine.specs.declared.Machine.{Machine}
 use Rattle.machine.specs.Choices.{choices-of}
 use Rattle.acts.specs.Inner.Acting.{Holds}
 
--- a place with its stack. Entry d of the stack: the end of what holds an arm at depth d, and where the run goes on in it after the arm
+-- a place with its room. Entry a of the room is the first cell of array a, entry 33 + d the end of what holds an arm at depth d, entry 49 + d where the run goes on in it after the arm
 pub record Spot : Type 0 where
   pub at : ℕ
   pub end : ℕ
   pub depth : ℕ
   pub used : ℕ
-  pub ends : List ℕ
-  pub backs : List ℕ
+  pub room : List ℕ
 
 -- from its two parts
-abbrev pub spot : Place → List ℕ → List ℕ → Spot
-spot p ends backs = record { at = p .at; end = p .end; depth = p .depth; used = p .used; ends = ends; backs = backs }
+abbrev pub spot : Place → List ℕ → Spot
+spot p room = record { at = p .at; end = p .end; depth = p .depth; used = p .used; room = room }
 
--- a machine with its stack
+-- a machine with its room
 pub record Runner : Type 0 where
   pub place : Spot
-  pub stored : Stored
+  pub flags : ℕ
+  pub others : ℕ
+  pub bodies : ℕ
+  pub last : Record
   pub verdict : Verdict
   pub running : Bool
 
 -- from its two parts
-abbrev pub runner : Machine → List ℕ → List ℕ → Runner
-runner m ends backs = record { place = spot (m .place) ends backs; stored = m .stored; verdict = m .verdict; running = m .running }
+abbrev pub runner : Machine → List ℕ → Runner
+runner m room = record { place = spot (m .place) room; flags = m .flags; others = m .«other_flags»; bodies = m .bodies; last = m .last; verdict = m .verdict; running = m .running }
+
+-- its flags with a tally: what a record acts on
+abbrev pub stored-with : Runner → Tally → Stored
+stored-with m t = record { flags = m .flags; «other_flags» = m .others; reads = t .reads; writes = t .writes; moved = t .moved }
+
+-- the tally of that
+abbrev pub tally-with : Stored → Tally
+tally-with s = record { reads = s .reads; writes = s .writes; moved = s .moved }
 
 -- the first record of a body
 abbrev pub started : ℕ → Place
@@ -50,19 +63,28 @@ started records = record { at = 0; end = records; depth = 0; used = 0 }
 
 -- into an arm
 abbrev pub entered : Spot → ℕ → ℕ → ℕ → Spot
-entered p at end back = record { at = at; end = end; depth = p .depth + 1; used = p .used + 1; ends = set (p .ends) (p .depth) (p .end); backs = set (p .backs) (p .depth) back }
+entered p at end back = record { at = at; end = end; depth = p .depth + 1; used = p .used + 1; room = set (set (p .room) (33 + p .depth) (p .end)) (49 + p .depth) back }
 
 -- past a loop
 abbrev pub skipped : Spot → ℕ → Spot
-skipped p at = record { at = at; end = p .end; depth = p .depth; used = p .used + 1; ends = p .ends; backs = p .backs }
+skipped p at = record { at = at; end = p .end; depth = p .depth; used = p .used + 1; room = p .room }
 
 -- out of an arm
 abbrev pub left-arm : Spot → Spot
-left-arm p = record { at = getD (p .backs) (p .depth - 1) 0; end = getD (p .ends) (p .depth - 1) 0; depth = p .depth - 1; used = p .used; ends = p .ends; backs = p .backs }
+left-arm p = record { at = getD (p .room) (49 + (p .depth - 1)) 0; end = getD (p .room) (33 + (p .depth - 1)) 0; depth = p .depth - 1; used = p .used; room = p .room }
 
 -- past a record without arms
 abbrev pub past-record : Spot → Spot
-past-record p = record { at = p .at + 1; end = p .end; depth = p .depth; used = p .used; ends = p .ends; backs = p .backs }
+past-record p = record { at = p .at + 1; end = p .end; depth = p .depth; used = p .used; room = p .room }
+
+-- out of each of n arms that ends here
+unfoldable pub settled-by : ℕ → Spot → Spot
+settled-by zero p = p
+settled-by (suc n) p = cond (eqb (p .at) (p .end)) (settled-by n (left-arm p)) p
+
+-- out of every arm that ends here
+abbrev pub settled : Spot → Spot
+settled p = settled-by (p .depth) p
 
 -- where a branch or a test of a loop leads on a choice
 unfoldable pub chosen : Spot → Fields → ℕ → Spot
@@ -75,21 +97,17 @@ chosen p x choice =
 
 -- the run has ended
 abbrev pub ended-with : Runner → Verdict → Runner
-ended-with m v = record { place = m .place; stored = m .stored; verdict = v; running = false }
+ended-with m v = record { place = m .place; flags = m .flags; others = m .others; bodies = m .bodies; last = m .last; verdict = v; running = false }
 
--- the run has moved on
-abbrev pub moved-to : Runner → Spot → Stored → Runner
-moved-to m p s = record { place = p; stored = s; verdict = m .verdict; running = m .running }
-
--- the end of an arm, or of the body
-unfoldable pub arm-ended : Runner → Runner
-arm-ended m = cond (eqb (m .place .depth) 0) (ended-with m Accepted) (moved-to m (left-arm (m .place)) (m .stored))
+-- the run has moved on from a record
+abbrev pub moved-to : Runner → Spot → ℕ → ℕ → Runner
+moved-to m p flags others = record { place = p; flags = flags; others = others; bodies = m .bodies; last = record { 0 = m .place .at }; verdict = m .verdict; running = m .running }
 
 -- a branch, or a test of a loop
 unfoldable pub tested : Runner → Fields → List ℕ → Runner
 tested m x choices =
     cond (eqb (m .place .used) (length choices)) (ended-with m (Refused 22 (m .place .at)))
-    (moved-to m (chosen (m .place) x (getD choices (m .place .used) 0)) (m .stored))
+    (moved-to m (settled (chosen (m .place) x (getD choices (m .place .used) 0))) (m .flags) (m .others))
 
 -- the first cell of a record with the fields x, whose array has the cells `first` up to `next`
 abbrev pub from-of : Fields → ℕ → ℕ
@@ -100,22 +118,22 @@ abbrev pub to-of : Fields → ℕ → ℕ → ℕ
 to-of x first next = cond (leb (x .kind) 3) (first + x .q) next
 
 -- what is left behind the innermost of `depth` arms
-unfoldable pub rest-of : List ℕ → List ℕ → List ℕ → ℕ → Block
-rest-of f ends backs zero = Block.done
-rest-of f ends backs (suc d) = block-between f (getD backs d 0) (getD ends d 0) then rest-of f ends backs d
+unfoldable pub rest-of : List ℕ → List ℕ → ℕ → Block
+rest-of f room zero = Block.done
+rest-of f room (suc d) = block-between f (getD room (49 + d) 0) (getD room (33 + d) 0) then rest-of f room d
 
 -- what is left at a place
 unfoldable pub left-of : List ℕ → Spot → Block
-left-of f p = block-between f (p .at) (p .end) then rest-of f (p .ends) (p .backs) (p .depth)
+left-of f p = block-between f (p .at) (p .end) then rest-of f (p .room) (p .depth)
 
 -- how many records are left behind the innermost of `depth` arms, and one for the way out of each
-unfoldable pub weight-of : List ℕ → List ℕ → ℕ → ℕ
-weight-of ends backs zero = 0
-weight-of ends backs (suc d) = 1 + (getD ends d 0 - getD backs d 0) + weight-of ends backs d
+unfoldable pub weight-of : List ℕ → ℕ → ℕ
+weight-of room zero = 0
+weight-of room (suc d) = 1 + (getD room (33 + d) 0 - getD room (49 + d) 0) + weight-of room d
 
 -- the same at a place: it falls with every step that takes no choice
 unfoldable pub weight : Spot → ℕ
-weight p = (p .end - p .at) + weight-of (p .ends) (p .backs) (p .depth)
+weight p = (p .end - p .at) + weight-of (p .room) (p .depth)
 
 -- more than the weight of any place
 abbrev pub heavy : ℕ
@@ -132,35 +150,75 @@ pub record Part (f : List ℕ) (d r end : ℕ) : Type 0 where
   pub inside : end ≤ record-count f
 
 -- each of `depth` arms goes on in such a part
-unfoldable pub Parts : List ℕ → List ℕ → List ℕ → ℕ → Type 0
-Parts f ends backs zero = Unit {0}
-Parts f ends backs (suc d) = Part f d (getD backs d 0) (getD ends d 0) × Parts f ends backs d
+unfoldable pub Parts : List ℕ → List ℕ → ℕ → Type 0
+Parts f room zero = Unit {0}
+Parts f room (suc d) = Part f d (getD room (49 + d) 0) (getD room (33 + d) 0) × Parts f room d
 
 -- a place in the plan
 pub record Placed (f : List ℕ) (p : Spot) : Type 0 where
-  pub all-ends : length (p .ends) ≡ 16
-  pub all-backs : length (p .backs) ≡ 16
+  pub size : length (p .room) ≡ 65
   pub here : Part f (p .depth) (p .at) (p .end)
-  pub behind : Parts f (p .ends) (p .backs) (p .depth)
+  pub behind : Parts f (p .room) (p .depth)
   pub shallow : p .depth ≤ 16
 
--- the run goes on, or it ends at configuration k as the verdict says
-abbrev pub Ended : List ℕ → Config → Bool → Verdict → Type 0
-Ended f k true v = v ≡ Accepted
-Ended f k false Accepted = step (arrays-of f) k ≡ Step.ends finished
-Ended f k false (Stopped r c) = step (arrays-of f) k ≡ Step.ends (stopped (r .0) (c .0))
-Ended f k false (Refused number r) = (number ≡ 22) × (step (arrays-of f) k ≡ Step.ends (out-of-choices r))
+-- the machine, the memories and the tally hold configuration k
+pub record Stands (f choices : List ℕ) (m : Runner) (own others latest : List ℕ) (t : Tally) (k : Config) : Type 0 where
+  pub plain : Plain f (m .bodies)
+  pub many : length choices ≤ 65536
+  pub starts : Starts f (m .place .room)
+  pub placed : Placed f (m .place)
+  -- at the end of an arm it has left the arm
+  pub settles : m .place .at ≡ m .place .end → m .place .depth ≡ 0
+  pub left : k .left ≡ left-of f (m .place)
+  pub used : m .place .used ≤ length choices
+  pub choices-left : k .choices ≡ choices-of (drop (m .place .used) choices)
+  pub holds : Holds (arrays-of f) host (stored-with m t) own others latest (k .state) (k .history)
+  -- what bounds the stamps and the tally
+  pub few : length (k .history) + weight (m .place) ≤ (m .place .used + 1) * heavy
+  pub few-moved : tally (arrays-of f) (k .history) .moved ≤ length (k .history) * 4096
 
--- the machine and the memories are at a configuration of the run
-pub record Reaches (f choices : List ℕ) (m : Runner) (own others latest : List ℕ) : Type 0 where
+-- the number of the record that comes next
+abbrev pub next-record : Block → ℕ
+next-record Block.done = 0
+next-record (Block.act r x b) = r
+next-record (Block.branch r x y b) = r
+next-record (Block.loop r x b) = r
+
+-- what the machine says of an ending
+abbrev pub said-of : Ending → Verdict
+said-of finished = Accepted
+said-of (stopped r c) = stop r c
+said-of (out-of-choices r) = Refused 22 r
+
+-- from configuration k, the machine has made this step of the definition of a run and says which record it executed; or the run ends at k, and the machine says how
+abbrev pub StepsAs : List ℕ → List ℕ → Config → Runner → List ℕ → List ℕ → List ℕ → Tally → Step → Type 0
+StepsAs f choices k m own others latest t (Step.next k′) = (m .running ≡ true) × (m .last .0 ≡ next-record (k .left)) × Stands f choices m own others latest t k′
+StepsAs f choices k m own others latest t (Step.ends e) = (m .running ≡ false) × (m .verdict ≡ said-of e) × Stands f choices m own others latest t k
+
+-- one call of `step` is one step of the definition, from whatever configuration the machine, the memories and the tally held
+abbrev pub Steps : List ℕ → List ℕ → Runner → List ℕ → List ℕ → List ℕ → Tally → Runner → List ℕ → List ℕ → List ℕ → Tally → Type 0
+Steps f choices m own others latest t m′ own′ others′ latest′ t′ =
+    (k : Config) → Stands f choices m own others latest t k → StepsAs f choices k m′ own′ others′ latest′ t′ (step (arrays-of f) k)
+
+-- some configuration is held
+pub record Stood (f choices : List ℕ) (m : Runner) (own others latest : List ℕ) (t : Tally) : Type 0 where
+  pub config : Config
+  pub stands : Stands f choices m own others latest t config
+
+-- the run ends at configuration k, as the verdict says
+pub record Over (f : List ℕ) (k : Config) (v : Verdict) : Type 0 where
+  pub ending : Ending
+  pub last : step (arrays-of f) k ≡ Step.ends ending
+  pub says : v ≡ said-of ending
+
+-- the run goes on, or it has ended
+abbrev pub Ended : List ℕ → Config → Bool → Verdict → Type 0
+Ended f k true v = Unit {0}
+Ended f k false v = Over f k v
+
+-- the machine, the memories and the tally are at a configuration of the run
+pub record Reaches (f choices : List ℕ) (m : Runner) (own others latest : List ℕ) (t : Tally) : Type 0 where
   pub config : Config
   pub run : Run (plan-of f) (choices-of choices) config
-  pub placed : Placed f (m .place)
-  pub left : config .left ≡ left-of f (m .place)
-  pub used : m .place .used ≤ length choices
-  pub choices-left : config .choices ≡ choices-of (drop (m .place .used) choices)
-  pub holds : Holds (arrays-of f) host (m .stored) own others latest (config .state) (config .history)
-  -- what bounds the stamps and the tally
-  pub few : length (config .history) + weight (m .place) ≤ (m .place .used + 1) * heavy
-  pub few-moved : tally (arrays-of f) (config .history) .moved ≤ length (config .history) * 4096
+  pub stands : Stands f choices m own others latest t config
   pub ended : Ended f config (m .running) (m .verdict)

@@ -43,9 +43,6 @@ run-to-end-requires c κs =
 end-of-requires : tie.Need-end-of-requires
 end-of-requires c κs = search needs
 
-tally-of-requires : tie.Need-tally-of-requires
-tally-of-requires c κs = search needs
-
 same-length-4 : tie.Need-same-length-4
 same-length-4 c = search needs
 
@@ -57,10 +54,10 @@ same-length-6 c = search needs
 
 returns-2 : tie.Need-returns-2
 returns-2 c =
-    let r = c .before .before .before .before .before .before .before .before .run-to-end in
+    let r = c .before .before .before .before .before .before .before .before .before .run-to-end in
     let w = r .ensures in
-    let e = c .before .end-of .ensures _ _ _ (w .0 .reaches .holds .own-flags) (w .0 .reaches .holds .others-flags) in
-    rw (c .tally-of .ensures) (runs-ran _ _ _ (accepted (c .before .before .before .before .before .before .before .before .before .before .before .before)) _ _ (ran _ _ _ _ _ _ (w .0 .reaches) (w .1 .0) _ _ _ _ (w .1 .1 .0) (w .1 .1 .1 .0) (w .1 .1 .1 .1) _ e))
+    let held = w .0 .reaches .stands .holds in
+    runs-ran _ _ _ (accepted (c .before .before .before .before .before .before .before .before .before .before .before .before .before)) _ _ (ran _ _ _ _ _ _ _ (w .0 .reaches) (w .1 .0) _ _ _ _ (w .1 .1 .0) (w .1 .1 .1 .0) (w .1 .1 .1 .1) _ (c .end-of .ensures _ _ _ (held .own-flags) (held .others-flags)))
 
 pub run-opened-spec : {M : Type 1} → statement M
 run-opened-spec =
@@ -75,7 +72,6 @@ run-opened-spec =
     returns
     run-to-end-requires
     end-of-requires
-    tally-of-requires
     same-length-4
     same-length-5
     same-length-6

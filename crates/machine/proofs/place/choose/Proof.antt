@@ -35,9 +35,12 @@ add-next c = search needs
 enter-requires : tie.Need-enter-requires
 enter-requires c κs = search needs
 
+same-length : tie.Need-same-length
+same-length c = search needs
+
 returns : tie.Need-returns
 unfolding chosen
-returns c = rw (eq-eqb _ 6 (c .before .before .before .before .if1 .taken), eq-eqb _ 0 (c .before .before .before .if2 .taken), ← c .before .before .before .before .before .before .second-arm .ensures .0, ← c .before .before .before .before .before .before .before .first-arm .ensures .0) (c .enter .ensures)
+returns c = rw (eq-eqb _ 6 (c .before .before .before .before .before .if1 .taken), eq-eqb _ 0 (c .before .before .before .before .if2 .taken), ← c .before .before .before .before .before .before .before .second-arm .ensures .0, ← c .before .before .before .before .before .before .before .before .first-arm .ensures .0) (c .before .before .enter .ensures)
 
 add-enter : tie.Need-add-enter
 add-enter c = search needs
@@ -45,16 +48,19 @@ add-enter c = search needs
 enter-requires-2 : tie.Need-enter-requires-2
 enter-requires-2 c κs = search needs
 
+same-length-2 : tie.Need-same-length-2
+same-length-2 c = search needs
+
 returns-2 : tie.Need-returns-2
 unfolding chosen
-returns-2 c = rw (eq-eqb _ 6 (c .before .before .before .before .if1 .taken), ne-eqb _ 0 (c .before .before .before .if2 .left), ← c .before .before .before .before .before .before .second-arm .ensures .0, ← c .before .before .before .before .before .before .before .first-arm .ensures .0) (c .enter2 .ensures)
+returns-2 c = rw (eq-eqb _ 6 (c .before .before .before .before .before .if1 .taken), ne-eqb _ 0 (c .before .before .before .before .if2 .left), ← c .before .before .before .before .before .before .before .second-arm .ensures .0, ← c .before .before .before .before .before .before .before .before .first-arm .ensures .0) (c .before .before .enter2 .ensures)
 
 skip-requires : tie.Need-skip-requires
 skip-requires c κs = search needs
 
 returns-3 : tie.Need-returns-3
 unfolding chosen
-returns-3 c = rw (ne-eqb _ 6 (c .before .before .if1 .left), eq-eqb _ 0 (c .before .if3 .taken), ← c .before .before .before .before .second-arm .ensures .0, ← c .before .before .before .before .before .first-arm .ensures .0) (c .skip .ensures _ _)
+returns-3 c = rw (ne-eqb _ 6 (c .before .before .if1 .left), eq-eqb _ 0 (c .before .if3 .taken), ← c .before .before .before .before .second-arm .ensures .0, ← c .before .before .before .before .before .first-arm .ensures .0) (c .skip .ensures _)
 
 add-enter-2 : tie.Need-add-enter-2
 add-enter-2 c = search needs
@@ -62,9 +68,12 @@ add-enter-2 c = search needs
 enter-requires-3 : tie.Need-enter-requires-3
 enter-requires-3 c κs = search needs
 
+same-length-3 : tie.Need-same-length-3
+same-length-3 c = search needs
+
 returns-4 : tie.Need-returns-4
 unfolding chosen
-returns-4 c = rw (ne-eqb _ 6 (c .before .before .before .before .if1 .left), ne-eqb _ 0 (c .before .before .before .if3 .left), ← c .before .before .before .before .before .before .before .first-arm .ensures .0) (c .enter3 .ensures)
+returns-4 c = rw (ne-eqb _ 6 (c .before .before .before .before .before .if1 .left), ne-eqb _ 0 (c .before .before .before .before .if3 .left), ← c .before .before .before .before .before .before .before .before .first-arm .ensures .0) (c .before .before .enter3 .ensures)
 
 pub choose-spec : {M : Type 1} → statement M
 choose-spec =
@@ -78,12 +87,15 @@ choose-spec =
     cast-next
     add-next
     enter-requires
+    same-length
     returns
     add-enter
     enter-requires-2
+    same-length-2
     returns-2
     skip-requires
     returns-3
     add-enter-2
     enter-requires-3
+    same-length-3
     returns-4)
