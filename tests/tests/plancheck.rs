@@ -28,7 +28,7 @@ fn seeded_files() {
 #[test]
 fn inputs_of_any_length() {
     match_line(&[]);
-    for length in [1, 3, 4, 10, 4096, 8388, 8389, 65_536, 1_000_000, 20_000_000] {
+    for length in [1, 3, 4, 10, 4096, 8388, 8389, 8390, 8391, 8392, 65_536, 1_000_000, 20_000_000] {
         let mut file = vec![0; length];
         match_line(&file);
         for (byte, good) in file.iter_mut().zip([2, 1, 1, 0, 1, 0, 0, 0, 0, 0]) {

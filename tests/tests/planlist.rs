@@ -279,7 +279,7 @@ fn seeded_files() {
 fn inputs_of_any_length() {
     let mut counts = Counts::new();
     match_listing(&[], &mut counts);
-    for length in [1, 3, 4, 10, 4096, 8388, 8389, 8400, 8401, 65_536, 20_000_000] {
+    for length in [1, 3, 4, 10, 4096, 8389, 8390, 8391, 8392, 65_536, 20_000_000] {
         let mut file = vec![0; length];
         match_listing(&file, &mut counts);
         for (byte, good) in file.iter_mut().zip([2, 1, 1, 0, 1, 0, 0, 0, 0, 0]) {

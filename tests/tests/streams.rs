@@ -2,7 +2,7 @@
 //! no end.
 
 use cuplihang_tests::generate::*;
-use cuplihang_tests::programs::{ended, path};
+use cuplihang_tests::programs::{ended, path, text};
 use cuplihang_tests::walker::plancheck::line;
 use std::fs::{read_to_string, File};
 use std::io::Write;
@@ -108,6 +108,21 @@ fn an_open_pipe_is_answered() {
     }
 }
 
+/// The largest plan file has 8,390 bytes; with one more it is none.
+#[test]
+fn the_largest_plan_file() {
+    let passes: Vec<Pass> = (0..31).map(|_| Pass { declarations: vec![], steps: vec![] }).collect();
+    let mut file = encode(&declared_draft(&[128; 32], &vec![Step::Loop(vec![]); 1024], &passes));
+    assert_eq!(file.len(), 8390);
+    assert_eq!(text("plancheck", &file), "1 0 0 0\n");
+    for byte in [0, 1, 255] {
+        file.truncate(8390);
+        file.push(byte);
+        assert_eq!(text("plancheck", &file), "0 6 0 0\n");
+        assert_eq!(text("plancheck", &file), line(&file));
+    }
+}
+
 /// The line that the README gives for scripts, in sh and in make.
 #[test]
 fn a_script_asks_for_the_verdict() {
@@ -121,7 +136,11 @@ fn a_script_asks_for_the_verdict() {
         write!(child.stdin.take().unwrap(), "all:\n\t{line}\n").unwrap();
         child.wait().unwrap().success()
     };
-    let sh = |line: &str| Command::new("sh").args(["-c", line]).current_dir(ROOT).status().unwrap().success();
+    let sh = |line: &str| {
+        let mut child = Command::new("sh");
+        child.args(["-c", line]).current_dir(ROOT).stderr(Stdio::null());
+        child.status().unwrap().success()
+    };
     let program = path("plancheck");
     for (plan, accepted) in [
         ("examples/router.plan", true),
@@ -134,7 +153,7 @@ fn a_script_asks_for_the_verdict() {
     ] {
         let line = command.replace("examples/router.plan", plan);
         let line = line.replace("target/bin/plancheck", program.to_str().unwrap());
-        assert_eq!(sh(&format!("{line} 2>/dev/null")), accepted, "sh: {line}");
+        assert_eq!(sh(&line), accepted, "sh: {line}");
         assert_eq!(make(&line), accepted, "make: {line}");
     }
 }

@@ -2,7 +2,7 @@
 -- keep their rules they do not say so great a length.
 use mathlib.Core.Path.{_≡_, refl, sym, ap, _∙_}
 use mathlib.Core.Bool.{false, true, not, _&&_, _||_}
-use mathlib.Core.List.{List, [], _∷_, _++_}
+use mathlib.Core.List.{List, [], _∷_, _++_, append-assoc}
 use Prim.Native.Nat.{ℕ, zero, suc, _+_, _*_, _≤_, _<_}
 use native.Mathlib.Decide.{decLt}
 use native.Mathlib.Omega.{arith}
@@ -16,14 +16,19 @@ use Rattle.model.specs.declared.Verdict.the-variants.{Accepted, Stopped, Refuse
 use Rattle.model.specs.Sides.{first-of}
 use Rattle.model.specs.Rows.{Row, row, first, each}
 use Rattle.reading.specs.Bytes.{byte-at, u16-at, kind-of, array-count, body-count, table, length-at, arrays-of, entry-at, records-in, declarations-in, last-of-entry, sizes-of, first-record, record-count, bodies-at}
-use Rattle.contents.specs.Contents.{header-fits, header-rows, array-rows, body-rows, contents-rows, tail-rows}
+use Rattle.contents.specs.Contents.{header-fits, header-rows, array-rows, body-rows, contents-rows, tail-rows, front-rows}
 use Rattle.records.specs.Records.{records-rows}
 use Rattle.format.specs.Opening.{open-rows, opening, opened}
 use Rattle.contents.specs.Found.{nothing-found, found-by}
-use Rattle.model.proofs.Rows.{refused, holds, passed, skipped, each-passed}
+use Rattle.model.proofs.Rows.{refused, holds, stop, passed, skipped, each-passed}
 use Rattle.contents.proofs.Places.{nothing}
 use Rattle.contents.proofs.Bounds.{Header, header-bounds}
 use Rattle.console.specs.Longer.{Decided, Longer}
+
+-- the places in the table's order
+places : (f : List ℕ) → open-rows f ≡ header-rows f ++ (contents-rows f ++ (tail-rows f ++ each (body-count f) (records-rows f)))
+unfolding open-rows front-rows
+places f = simp append-assoc
 
 -- two lists of rows that begin alike
 same-start : (a b c : List Row) → (Accepted ≡ first a → first b ≡ first c) → first (a ++ b) ≡ first (a ++ c)
@@ -119,8 +124,8 @@ module _ (f g : List ℕ) (lf : 8390 < length f) (lg : 8390 < length g) (near : 
         rw (le-ltb (length f) (bodies-at f) (omega arith), le-ltb (length g) (bodies-at g) (omega arith), same-each _ _ _ array-row, same-each _ _ _ body-row, near 1 (omega arith), near 2 (omega arith))
 
   same : opening f ≡ opening g
-  unfolding opening open-rows
-  same = same-start (header-rows f) _ _ after ∙ rw headers
+  unfolding opening
+  same = rw (places f, places g) (same-start (header-rows f) _ _ after ∙ rw headers)
     where
       after : Accepted ≡ first (header-rows f) → first (contents-rows f ++ (tail-rows f ++ each (body-count f) (records-rows f))) ≡ first (contents-rows g ++ (tail-rows g ++ each (body-count g) (records-rows g)))
       after e =
@@ -129,9 +134,9 @@ module _ (f g : List ℕ) (lf : 8390 < length f) (lg : 8390 < length g) (near : 
           same-start (contents-rows f) _ _ (λ k. sym (sixth f h lf k (each (body-count f) (records-rows f))) ∙ sixth g i lg (rw (contents h) at k) (each (body-count g) (records-rows g))) ∙ rw (contents h)
 
 refuses : (f : List ℕ) → 8390 < length f → opening f ≡ Accepted → ⊥
-unfolding opening open-rows
+unfolding opening
 refuses f l e =
-    let p = passed (header-rows f) _ (sym e) in
+    let p = passed (header-rows f) _ (rw (places f) at (sym e)) in
     let q = passed (contents-rows f) _ (p .1) in
     refused (sym (sixth f (header-bounds f (p .0)) l (q .0) _)) (sym (q .1))
 
@@ -140,11 +145,18 @@ same-opened : (f g : List ℕ) → (opening f ≡ Accepted → ⊥) → opening 
 unfolding opened
 same-opened f g nay e = sym (nothing f (nothing-found (opening f)) (opening f) (opening f) nay refl refl) ∙ nothing g (nothing-found (opening f)) (opening f) (opening g) nay refl e
 
+-- and every service refuses as opening does
+same-services : (f g : List ℕ) → (opening f ≡ Accepted → ⊥) → opening f ≡ opening g → (rows whole : List Row) → first (open-rows g ++ rows) ≡ first (open-rows f ++ whole)
+unfolding opening
+same-services f g nay e rows whole = sym (stop (open-rows g) rows _ nay e) ∙ stop (open-rows f) whole _ nay refl
+
+decided : (f : List ℕ) (n : ℕ) → 8390 < length f → opening f ≡ opening (take n f) → Decided f n
+decided f n l e = record { same = sym (same-opened f (take n f) (refuses f l) e); refuses = refuses f l; services = same-services f (take n f) (refuses f l) e }
+
 pub longer : Longer
 longer f n l m = elim (decLt n (length f)) [
   | yes h ↦
       let k : length (take n f) ≡ n = length-take-le n f (omega arith) in
-      let e = same f (take n f) l (omega arith) (λ i j. sym (getD-take n f i 0 (omega arith))) in
-      record { same = sym (same-opened f (take n f) (refuses f l) e); refuses = refuses f l }
-  | no h ↦ record { same = rw (take-all n f (omega arith)); refuses = refuses f l }
+      decided f n l (same f (take n f) l (omega arith) (λ i j. sym (getD-take n f i 0 (omega arith))))
+  | no h ↦ decided f n l (rw (take-all n f (omega arith)))
 ]
