@@ -43,7 +43,7 @@ cast-block-2 : tie.Need-cast-block-2
 cast-block-2 c = let n = stands (c .before .before .before .before .before .before) in omega (arith, n .entry .low, n .entry .rises, n .few)
 
 block-requires : tie.Need-block-requires
-block-requires c κs = let n = stands (c .before .before .before .before .before .before) in (omega arith, omega arith, omega (arith, n .entry .rises, n .few), rw (c .before .body-view .ensures) (n .lists))
+block-requires c κs = let n = stands (c .before .before .before .before .before .before) in (omega arith, omega arith, omega (arith, n .entry .rises, n .few), rw (c .before .body-view .ensures .0) (n .lists))
 
 returns : tie.Need-returns
 returns c = search needs
