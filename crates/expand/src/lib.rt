@@ -105,12 +105,12 @@ pub fn expansion_length(plan: &[u8]) -> Length
     let Verdict::Accepted = answer else {
         return no_length(answer);
     };
-    let records = expansion_records(plan);
-    if 1024 < records {
+    let total = expansion_records(plan);
+    if 1024 < total {
         return no_length(Verdict::Refused(16, 0));
     }
     Length {
         verdict: Verdict::Accepted,
-        bytes: 4 + 2 * (byte(plan, 1) as u32) + 4 + 8 * records + 2,
+        bytes: 4 + 2 * (byte(plan, 1) as u32) + 4 + 8 * total + 2,
     }
 }
