@@ -98,7 +98,8 @@ fn act_copy(
 {
     let c = first_stale(other, latest, from, to);
     if c < to {
-        return Acted::Unmet(Cell(c as u16));
+        let cell = c as u16;
+        return Acted::Unmet(Cell(cell));
     }
     copy_cells(other, own, from, to);
     Acted::Done(Stored {

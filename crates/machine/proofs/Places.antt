@@ -14,7 +14,7 @@ use Rattle.reading.specs.declared.Fields.{Fields}
 use Rattle.reading.specs.Bytes.{array-count, record-count, first-arm, second-arm}
 use Rattle.format.specs.Inner.Walks.{Starts, block-between}
 use Rattle.format.proofs.Trees.{block-none}
-use Rattle.machine.specs.Inner.Standing.{Spot, entered, skipped, chosen, left-arm, settled-by, settled, rest-of, left-of, weight-of, weight, Part, Parts, Placed}
+use Rattle.machine.specs.Inner.Standing.{Spot, entered, skipped, into, chosen, left-arm, settled-by, settled, rest-of, left-of, weight-of, weight, Part, Parts, Placed}
 
 -- a room with one entry more is the same below it
 module _ (f room : List ℕ) (i v w : ℕ) (low : i < 16) where
@@ -63,6 +63,48 @@ module _ (f : List ℕ) (p : Spot) (a e back : ℕ) (w : Placed f p) (h : p .dep
     behind = rw (add-one (p .depth), end-there, back-there) (rest, parts-set f (p .room) (p .depth) (p .end) back h (p .depth) (omega arith) (w .behind));
     shallow = omega arith;
   }
+
+-- the same, where an empty arm is passed over
+module _ (f : List ℕ) (p : Spot) (a e back : ℕ) (w : Placed f p) (h : p .depth < 16) where
+  pub left-into : left-of f (into p a e back) ≡ block-between f a e then (block-between f back (p .end) then rest-of f (p .room) (p .depth))
+  unfolding into left-of
+  left-into = go (eqb a e) refl
+    where
+      go : (b : Bool) → eqb a e ≡ b → left-of f (cond b (skipped p back) (entered p a e back)) ≡ block-between f a e then (block-between f back (p .end) then rest-of f (p .room) (p .depth))
+      go true q = let z = eqb-true a e q in rw (block-none f a e (omega arith))
+      go false q = left-entered f p a e back w h
+
+  pub starts-into : array-count f ≤ 32 → Starts f (p .room) → Starts f (into p a e back .room)
+  unfolding into
+  starts-into few s = go (eqb a e)
+    where
+      go : (b : Bool) → Starts f (cond b (skipped p back) (entered p a e back) .room)
+      go true = s
+      go false = starts-entered f p a e back w h few s
+
+  pub placed-into : Part f (p .depth + 1) a e → Part f (p .depth) back (p .end) → Placed f (into p a e back)
+  unfolding into
+  placed-into one rest = go (eqb a e)
+    where
+      go : (b : Bool) → Placed f (cond b (skipped p back) (entered p a e back))
+      go true = record { size = w .size; here = rest; behind = w .behind; shallow = w .shallow }
+      go false = placed-entered f p a e back w h one rest
+
+pub into-used : (p : Spot) (a e back : ℕ) → into p a e back .used ≡ p .used + 1
+unfolding into
+into-used p a e back = go (eqb a e)
+  where
+    go : (b : Bool) → cond b (skipped p back) (entered p a e back) .used ≡ p .used + 1
+    go true = refl
+    go false = refl
+
+into-depth : (p : Spot) (a e back : ℕ) → p .depth < 16 → into p a e back .depth ≤ 16
+unfolding into
+into-depth p a e back h = go (eqb a e)
+  where
+    go : (b : Bool) → cond b (skipped p back) (entered p a e back) .depth ≤ 16
+    go true = omega arith
+    go false = omega arith
 
 -- out of an arm
 module _ (f : List ℕ) (p : Spot) (d : ℕ) (e : p .depth ≡ suc d) (w : Placed f p) (z : p .at ≡ p .end) where
@@ -128,12 +170,12 @@ unfolding chosen
 chosen-depth p x choice q e h = rw e (go (eqb (x .kind) 6) (eqb choice 0))
   where
     go : (a b : Bool) →
-        cond a (cond b (entered p (p .at + 1 + first-arm x) (p .at + 1 + first-arm x + second-arm x) (p .at + 1 + first-arm x + second-arm x)) (entered p (p .at + 1) (p .at + 1 + first-arm x) (p .at + 1 + first-arm x + second-arm x)))
-        (cond b (skipped p (p .at + 1 + first-arm x + second-arm x)) (entered p (p .at + 1) (p .at + 1 + first-arm x) (p .at))) .depth ≤ 16
-    go true true = omega arith
-    go true false = omega arith
+        cond a (cond b (into p (p .at + 1 + first-arm x) (p .at + 1 + first-arm x + second-arm x) (p .at + 1 + first-arm x + second-arm x)) (into p (p .at + 1) (p .at + 1 + first-arm x) (p .at + 1 + first-arm x + second-arm x)))
+        (cond b (skipped p (p .at + 1 + first-arm x + second-arm x)) (into p (p .at + 1) (p .at + 1 + first-arm x) (p .at))) .depth ≤ 16
+    go true true = into-depth p _ _ _ h
+    go true false = into-depth p _ _ _ h
     go false true = omega arith
-    go false false = omega arith
+    go false false = into-depth p _ _ _ h
 
 -- no place is heavy
 module _ (f : List ℕ) (few : record-count f ≤ 1024) where

@@ -34,9 +34,9 @@ use Rattle.acts.specs.declared.Acted.{Acted}
 use Rattle.acts.specs.declared.Acted.the-variants.{Done, Unmet}
 use Rattle.machine.specs.Choices.{choices-of}
 use Rattle.acts.specs.Inner.Acting.{Room, Rooms, Same, Low, Spans, Holds, Acts}
-use Rattle.machine.specs.Inner.Standing.{Spot, Runner, stored-with, tally-with, entered, skipped, settled, past-record, chosen, from-of, to-of, ended-with, moved-to, tested, rest-of, left-of, weight, measure, Part, Placed, next-record, said-of, Stands, StepsAs, Steps, Stood, Reaches}
+use Rattle.machine.specs.Inner.Standing.{Spot, Runner, stored-with, tally-with, skipped, into, settled, past-record, chosen, from-of, to-of, ended-with, moved-to, tested, rest-of, left-of, weight, measure, Part, Placed, next-record, said-of, Stands, StepsAs, Steps, Stood, Reaches}
 use Rattle.machine.proofs.Records.{few-arrays, spans, inside, few-counted, few-moved}
-use Rattle.machine.proofs.Places.{left-entered, starts-entered, placed-entered, settling, light}
+use Rattle.machine.proofs.Places.{left-into, starts-into, placed-into, into-used, settling, light}
 
 -- the step of a configuration whose parts are known
 step-at : (arrays : Arrays) (k : Config) (b : Block) (cs : List Bool) → k .left ≡ b → k .choices ≡ cs → step arrays k ≡ step arrays (config b cs (k .state) (k .history))
@@ -237,9 +237,9 @@ module _ (f choices : List ℕ) (m : Runner) (own others latest : List ℕ) (t :
           number : p .at ≡ next-record (k .left)
           number = sym (ap next-record (branch-left y))
 
-          go : (b : Bool) → eqb byte 0 ≡ b → Took (cond b (entered p then-second then-next then-next) (entered p (p .at + 1) then-second then-next))
-          go true q = took (entered p then-second then-next then-next) _ u number (step-at arrays k _ _ (branch-left y) (taken true q)) (left-entered f p then-second then-next then-next (w .placed) d) (placed-entered f p then-second then-next then-next (w .placed) d two rest) (starts-entered f p then-second then-next then-next (w .placed) d few-arrays-here (w .starts)) refl
-          go false q = took (entered p (p .at + 1) then-second then-next) _ u number (step-at arrays k _ _ (branch-left y) (taken false q)) (left-entered f p (p .at + 1) then-second then-next (w .placed) d) (placed-entered f p (p .at + 1) then-second then-next (w .placed) d one rest) (starts-entered f p (p .at + 1) then-second then-next (w .placed) d few-arrays-here (w .starts)) refl
+          go : (b : Bool) → eqb byte 0 ≡ b → Took (cond b (into p then-second then-next then-next) (into p (p .at + 1) then-second then-next))
+          go true q = took (into p then-second then-next then-next) _ u number (step-at arrays k _ _ (branch-left y) (taken true q)) (left-into f p then-second then-next then-next (w .placed) d) (placed-into f p then-second then-next then-next (w .placed) d two rest) (starts-into f p then-second then-next then-next (w .placed) d few-arrays-here (w .starts)) (into-used p _ _ _)
+          go false q = took (into p (p .at + 1) then-second then-next) _ u number (step-at arrays k _ _ (branch-left y) (taken false q)) (left-into f p (p .at + 1) then-second then-next (w .placed) d) (placed-into f p (p .at + 1) then-second then-next (w .placed) d one rest) (starts-into f p (p .at + 1) then-second then-next (w .placed) d few-arrays-here (w .starts)) (into-used p _ _ _)
 
       loop-took : x .kind ≡ 7 → Took (chosen p x byte)
       unfolding chosen left-of
@@ -254,9 +254,9 @@ module _ (f choices : List ℕ) (m : Runner) (own others latest : List ℕ) (t :
           past-loop : Placed f (skipped p then-next)
           past-loop = record { size = w .placed .size; here = rest; behind = w .placed .behind; shallow = w .placed .shallow }
 
-          go : (b : Bool) → eqb byte 0 ≡ b → Took (cond b (skipped p then-next) (entered p (p .at + 1) then-second (p .at)))
+          go : (b : Bool) → eqb byte 0 ≡ b → Took (cond b (skipped p then-next) (into p (p .at + 1) then-second (p .at)))
           go true q = took (skipped p then-next) _ u number (step-at arrays k _ _ (w .left ∙ loop-here y) (taken true q)) refl past-loop (w .starts) refl
-          go false q = took (entered p (p .at + 1) then-second (p .at)) _ u number (step-at arrays k _ _ (w .left ∙ loop-here y) (taken false q)) (left-entered f p (p .at + 1) then-second (p .at) (w .placed) d ∙ ap (λ b. block-between f (p .at + 1) then-second then b) (loop-here y)) (placed-entered f p (p .at + 1) then-second (p .at) (w .placed) d one part) (starts-entered f p (p .at + 1) then-second (p .at) (w .placed) d few-arrays-here (w .starts)) refl
+          go false q = took (into p (p .at + 1) then-second (p .at)) _ u number (step-at arrays k _ _ (w .left ∙ loop-here y) (taken false q)) (left-into f p (p .at + 1) then-second (p .at) (w .placed) d ∙ ap (λ b. block-between f (p .at + 1) then-second then b) (loop-here y)) (placed-into f p (p .at + 1) then-second (p .at) (w .placed) d one part) (starts-into f p (p .at + 1) then-second (p .at) (w .placed) d few-arrays-here (w .starts)) (into-used p _ _ _)
 
     spent : p .used ≡ length choices → k .choices ≡ []
     spent u = w .choices-left ∙ ap choices-of (ap (λ n. drop n choices) u ∙ drop-length choices)

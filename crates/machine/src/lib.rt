@@ -57,8 +57,19 @@ fn ended(m: Machine, v: Verdict) -> Machine
     }
 }
 
+// The same, and the tally is as it was.
+fn over(m: Machine, v: Verdict, kept: Tally) -> Stepped
+    ensures { λ r. ⌜ ((room : List ℕ) → runner (r .machine) room ≡ ended-with (runner m room) v) × (r .tally ≡ kept) ⌝ }
+{
+    Stepped {
+        machine: ended(m, v),
+        tally: kept,
+    }
+}
+
 // The run has moved on from a record.
 fn moved(m: Machine, p: Place, flags: u32, other_flags: u32) -> Machine
+    requires { ⌜ m .place .at < 65536 ⌝ }
     ensures { λ r. ⌜ ((room : List ℕ) → runner r room ≡ moved-to (runner m room) (spot p room) flags «other_flags») ⌝ }
 {
     let q = m.place;
@@ -68,7 +79,7 @@ fn moved(m: Machine, p: Place, flags: u32, other_flags: u32) -> Machine
         flags: flags,
         other_flags: other_flags,
         bodies: m.bodies,
-        last: Record(q.at),
+        last: Record(q.at as u16),
         verdict: v,
         running: m.running,
     }
@@ -76,13 +87,13 @@ fn moved(m: Machine, p: Place, flags: u32, other_flags: u32) -> Machine
 
 // A branch, or a test of a loop, with the fields x.
 fn test(m: Machine, x: Fields, choices: &[u8], room: &mut [u16]) -> Machine
-    requires { ⌜ (m .place .depth < 16) × (m .place .used ≤ length (now choices)) × (length (now choices) ≤ 65536) × (length (now room) ≡ 65) × (m .place .at + 1 + first-arm x + second-arm x < 65536) ⌝ }
+    requires { ⌜ (m .place .depth < 16) × (m .place .used ≤ length (now choices)) × (length (now choices) ≤ 65536) × (length (now room) ≡ 65) × (m .place .end < 65536) × (m .place .at + 1 + first-arm x + second-arm x < 65536) ⌝ }
     ensures { λ r. ⌜ runner r (now (room .exit)) ≡ tested (runner m (now (room .entry))) x (now (choices .entry)) ⌝ }
 {
     let p = m.place;
-    let used = p.used as usize;
+    let used = p.used;
     if used == choices.len() {
-        return ended(m, Verdict::Refused(22, p.at));
+        return ended(m, Verdict::Refused(22, p.at as u16));
     }
     let q = choose(p, x, choices[used], room);
     moved(m, settle(q, room), m.flags, m.other_flags)
@@ -160,12 +171,9 @@ pub fn step(
 {
     let p = m.place;
     if p.at == p.end {
-        return Stepped {
-            machine: ended(m, Verdict::Accepted),
-            tally: t,
-        };
+        return over(m, Verdict::Accepted, t);
     }
-    let x = record_at(plan, m.bodies, p.at as usize);
+    let x = record_at(plan, m.bodies, p.at);
     if 6 <= x.kind {
         return Stepped {
             machine: test(m, x, choices, room),
@@ -177,15 +185,13 @@ pub fn step(
     let next = room[a + 1];
     let from = first_cell(x, first);
     let to = next_cell(x, first, next);
-    match act(x, from, to, acted_on(m, t), host, card, latest) {
+    let before = acted_on(m, t);
+    match act(x, from, to, before, host, card, latest) {
         Acted::Done(s) => Stepped {
             machine: moved(m, settle(past(p), room), s.flags, s.other_flags),
             tally: tally_of(s),
         },
-        Acted::Unmet(c) => Stepped {
-            machine: ended(m, Verdict::Stopped(Record(p.at), c)),
-            tally: t,
-        },
+        Acted::Unmet(c) => over(m, Verdict::Stopped(Record(p.at as u16), c), t),
     }
 }
 

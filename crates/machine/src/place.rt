@@ -4,7 +4,7 @@ ghost use mathlib.Core.List.{List};
 ghost use Prim.Native.Nat.{ℕ, _+_, _≤_, _<_};
 ghost use Rattle.reading.specs.Bytes.{first-arm, second-arm};
 ghost use lib.ListN.{length};
-ghost use Rattle.machine.specs.Inner.Standing.{spot, started, entered, skipped, left-arm, settled, chosen};
+ghost use Rattle.machine.specs.Inner.Standing.{spot, started, entered, skipped, into, left-arm, settled, chosen};
 use reading::Fields;
 use reading::first_arm;
 use reading::second_arm;
@@ -17,12 +17,12 @@ const ENDS: usize = 33;
 
 const BACKS: usize = 49;
 
-// Record `at` of an arm or body that ends before record `end`, `depth` arms deep; how many choices are used.
+// Record `at` of an arm or body that ends before record `end`, `depth` arms deep; how many choices are used. Whole words: parts of one are put together anew at each step.
 pub struct Place {
-    pub at: u16,
-    pub end: u16,
-    pub depth: u16,
-    pub used: u32,
+    pub at: usize,
+    pub end: usize,
+    pub depth: usize,
+    pub used: usize,
 }
 
 // The first record of a body.
@@ -31,30 +31,30 @@ pub fn first_place(records: u16) -> Place
 {
     Place {
         at: 0,
-        end: records,
+        end: records as usize,
         depth: 0,
         used: 0,
     }
 }
 
 // Into an arm, after which the run goes on at record `back`; one choice more is used.
-fn enter(p: Place, at: u16, end: u16, back: u16, room: &mut [u16]) -> Place
-    requires { ⌜ (p .depth < 16) × (p .used < 65536) × (length (now room) ≡ 65) ⌝ }
+fn enter(p: Place, at: usize, end: usize, back: usize, room: &mut [u16]) -> Place
+    requires { ⌜ (p .depth < 16) × (p .used < 65536) × (length (now room) ≡ 65) × (p .end < 65536) × (back < 65536) ⌝ }
     ensures { λ r. ⌜ spot r (now (room .exit)) ≡ entered (spot p (now (room .entry))) at end back ⌝ }
 {
-    let d = p.depth as usize;
-    room[ENDS + d] = p.end;
-    room[BACKS + d] = back;
+    let d = p.depth;
+    room[ENDS + d] = p.end as u16;
+    room[BACKS + d] = back as u16;
     Place {
         at: at,
         end: end,
-        depth: p.depth + 1,
+        depth: d + 1,
         used: p.used + 1,
     }
 }
 
 // Past a loop; one choice more is used.
-fn skip(p: Place, at: u16) -> Place
+fn skip(p: Place, at: usize) -> Place
     requires { ⌜ p .used < 65536 ⌝ }
     ensures { λ r. ⌜ ((room : List ℕ) → spot r room ≡ skipped (spot p room) at) ⌝ }
 {
@@ -66,16 +66,34 @@ fn skip(p: Place, at: u16) -> Place
     }
 }
 
+// The same; an empty arm is passed over.
+fn into_arm(p: Place, at: usize, end: usize, back: usize, room: &mut [u16]) -> Place
+    requires { ⌜ (p .depth < 16) × (p .used < 65536) × (length (now room) ≡ 65) × (p .end < 65536) × (back < 65536) ⌝ }
+    ensures { λ r. ⌜ spot r (now (room .exit)) ≡ into (spot p (now (room .entry))) at end back ⌝ }
+{
+    if at == end {
+        return skip(p, back);
+    }
+    enter(p, at, end, back, room)
+}
+
+// An entry of the room as a whole word.
+fn wide(x: u16) -> usize
+    ensures { λ r. ⌜ r ≡ x ⌝ }
+{
+    x as usize
+}
+
 // Out of an arm.
 fn leave(p: Place, room: &[u16]) -> Place
     requires { ⌜ (0 < p .depth) × (p .depth ≤ 16) × (length (now room) ≡ 65) ⌝ }
     ensures { λ r. ⌜ spot r (now (room .entry)) ≡ left-arm (spot p (now (room .entry))) ⌝ }
 {
-    let d = (p.depth - 1) as usize;
+    let d = p.depth - 1;
     Place {
-        at: room[BACKS + d],
-        end: room[ENDS + d],
-        depth: p.depth - 1,
+        at: wide(room[BACKS + d]),
+        end: wide(room[ENDS + d]),
+        depth: d,
         used: p.used,
     }
 }
@@ -94,20 +112,20 @@ pub fn settle(p: Place, room: &[u16]) -> Place
 
 // Where a branch or a test of a loop with the fields x leads on a choice.
 pub fn choose(p: Place, x: Fields, choice: u8, room: &mut [u16]) -> Place
-    requires { ⌜ (p .depth < 16) × (p .used < 65536) × (length (now room) ≡ 65) × (p .at + 1 + first-arm x + second-arm x < 65536) ⌝ }
+    requires { ⌜ (p .depth < 16) × (p .used < 65536) × (length (now room) ≡ 65) × (p .end < 65536) × (p .at + 1 + first-arm x + second-arm x < 65536) ⌝ }
     ensures { λ r. ⌜ spot r (now (room .exit)) ≡ chosen (spot p (now (room .entry))) x choice ⌝ }
 {
     let at = p.at;
-    let second = at + 1 + first_arm(x) as u16;
-    let next = second + second_arm(x) as u16;
+    let second = at + 1 + first_arm(x);
+    let next = second + second_arm(x);
     if x.kind == 6 {
         if choice == 0 {
-            return enter(p, second, next, next, room);
+            return into_arm(p, second, next, next, room);
         }
-        return enter(p, at + 1, second, next, room);
+        return into_arm(p, at + 1, second, next, room);
     }
     if choice == 0 {
         return skip(p, next);
     }
-    enter(p, at + 1, second, at, room)
+    into_arm(p, at + 1, second, at, room)
 }

@@ -187,6 +187,7 @@ pub fn no_end(v: Verdict) -> End
 
 // What the end of a run answers.
 pub fn end_of(m: Machine) -> End
+    requires { ⌜ m .place .used ≤ 65536 ⌝ }
     ensures { λ r. ⌜ ((n : ℕ) (host card : ℕ → Bool) → m .flags ≡ mask n host → m .«other_flags» ≡ mask n card → r ≡ end-with n host card (m .place .used) (m .verdict)) ⌝ }
 {
     let v = m.verdict;
@@ -196,7 +197,7 @@ pub fn end_of(m: Machine) -> End
     let p = m.place;
     End {
         verdict: Verdict::Accepted,
-        used: p.used,
+        used: p.used as u32,
         host_flags: m.flags,
         card_flags: m.other_flags,
         on_host: flags_set(m.flags),

@@ -9,8 +9,8 @@ use Rattle.acts.proofs.act_copy.Tie as tie
 first-stale-requires : tie.Need-first-stale-requires
 first-stale-requires c κs = search needs
 
-cast-t9 : tie.Need-cast-t9
-cast-t9 c = search needs
+cast-cell : tie.Need-cast-cell
+cast-cell c = search needs
 
 returns : tie.Need-returns
 returns c = search needs
@@ -35,7 +35,7 @@ act-copy-spec =
     tie.close
     (tie.spec
     first-stale-requires
-    cast-t9
+    cast-cell
     returns
     copy-cells-requires
     sub-t14

@@ -20,10 +20,10 @@ use Rattle.machine.proofs.step.Lts as lts
 use Rattle.acts.proofs.act.Reads as act-reads
 use Rattle.reading.proofs.record_at.Reads as record-at-reads
 use Rattle.machine.proofs.acted_on.Reads as acted-on-reads
-use Rattle.machine.proofs.ended.Reads as ended-reads
 use Rattle.machine.proofs.first_cell.Reads as first-cell-reads
 use Rattle.machine.proofs.moved.Reads as moved-reads
 use Rattle.machine.proofs.next_cell.Reads as next-cell-reads
+use Rattle.machine.proofs.over.Reads as over-reads
 use Rattle.machine.proofs.past.Reads as past-reads
 use Rattle.machine.proofs.place.settle.Reads as settle-reads
 use Rattle.machine.proofs.tally_of.Reads as tally-of-reads
@@ -34,17 +34,17 @@ before-end : (c : tie.Else1) → c .before .before .before .before .before .befo
 before-end c = omega (arith, c .before .before .before .before .before .before .before .before .before .pre .1 .stands .placed .here .order, c .if1 .left)
 
 -- a record of kind 1 to 5 is of an array of the plan
-array-there : (c : tie.After-struct-known4) → c .before .before .before .record-at .result .array < array-count (c .before .before .before .before .before .before .before .before .before .before .before .before .before .before .args .plan .now)
+array-there : (c : tie.After-struct-known3) → c .before .before .before .record-at .result .array < array-count (c .before .before .before .before .before .before .before .before .before .before .before .before .before .args .plan .now)
 array-there c =
-    let w = c .before .before .before .before .before .before .before .before .before .before .before .before .before .before .pre .1 .stands in
+    let w = c .before .before .before .before .before .before .before .before .before .before .before .before .before .pre .1 .stands in
     let x = c .before .before .before .record-at in
-    let h = before-end (c .before .before .before .before .before) in
+    let h = before-end (c .before .before .before .before) in
     let low = kind-is _ _ (w .plain) _ _ _ (w .placed .here) h _ (x .ensures) .0 in
     on-array _ _ (w .plain) _ (record-fits _ _ (w .plain) _ _ _ (w .placed .here) h _ (x .ensures)) (low, omega (arith, c .before .if2 .left)) .1
 
 abbrev Able-here : tie.After-slice-known7 → Type 0
 Able-here c =
-    let a = c .before .before .before .before .before .before .before .before .before .before .before .before .before .before .before .before .args in
+    let a = c .before .before .before .before .before .before .before .before .before .before .before .before .before .before .before .args in
     let x = c .before .before .before .before .before .record-at .result in
     let first = getD (a .room .now) (x .array) 0 in
     let next = getD (a .room .now) (x .array + 1) 0 in
@@ -52,43 +52,40 @@ Able-here c =
 
 able-here : (c : tie.After-slice-known7) → Able-here c
 able-here c =
-    let a = c .before .before .before .before .before .before .before .before .before .before .before .before .before .before .before .before in
+    let a = c .before .before .before .before .before .before .before .before .before .before .before .before .before .before .before in
     let w = array-there (c .before .before) in
-    able _ _ _ _ _ _ _ (a .pre .0) _ (a .pre .1 .stands) (before-end (c .before .before .before .before .before .before .before)) _ (c .before .before .before .before .before .record-at .ensures) (omega (arith, c .before .before .before .if2 .left)) _ _ (a .pre .1 .stands .starts .first _ (omega arith)) (a .pre .1 .stands .starts .first _ (omega arith))
+    able _ _ _ _ _ _ _ (a .pre .0) _ (a .pre .1 .stands) (before-end (c .before .before .before .before .before .before)) _ (c .before .before .before .before .before .record-at .ensures) (omega (arith, c .before .before .before .if2 .left)) _ _ (a .pre .1 .stands .starts .first _ (omega arith)) (a .pre .1 .stands .starts .first _ (omega arith))
 
-ended-requires : tie.Need-ended-requires
-ended-requires c κs = search needs
+over-requires : tie.Need-over-requires
+over-requires c κs = search needs
 
 returns : tie.Need-returns
 returns c =
     let a = c .before .before .before .before .before .before .before .before .before .before in
-    ensured _ _ _ _ _ _ _ _ _ _ _ _ _ (a .pre .1) (λ k w. at-end _ _ _ _ _ _ _ (a .pre .0) k w (c .before .if1 .taken) _ (c .ended .ensures (a .args .room .now))) (same-all _ _) (same-all _ _) (same-all _ _)
-
-cast-record-at : tie.Need-cast-record-at
-cast-record-at c = search needs
+    ensured _ _ _ _ _ _ _ _ _ _ _ _ _ (a .pre .1) (λ k w. rw (c .over .ensures .1) (at-end _ _ _ _ _ _ _ (a .pre .0) k w (c .before .if1 .taken) _ (c .over .ensures .0 (a .args .room .now)))) (same-all _ _) (same-all _ _) (same-all _ _)
 
 record-at-requires : tie.Need-record-at-requires
 record-at-requires c κs =
-    let w = c .before .before .before .before .before .before .before .before .before .before .pre .1 .stands in
-    let h = before-end (c .before) in
+    let w = c .before .before .before .before .before .before .before .before .before .pre .1 .stands in
+    let h = before-end (c) in
     (w .plain .place, record-inside _ _ (w .plain) _ (omega (arith, h, w .placed .here .inside)))
 
 test-requires : tie.Need-test-requires
 test-requires c κs =
-    let w = c .before .before .before .before .before .before .before .before .before .before .before .before .before .before .pre .1 .stands in
+    let w = c .before .before .before .before .before .before .before .before .before .before .before .before .before .pre .1 .stands in
     let x = c .before .before .before .record-at in
-    let h = before-end (c .before .before .before .before .before) in
+    let h = before-end (c .before .before .before .before) in
     let part = w .placed .here in
     let n = fits-inside _ _ (w .plain) _ _ _ part h _ (x .ensures) in
-    (not-deep _ _ (w .plain) _ _ _ part h _ (x .ensures) (c .before .if2 .taken), w .used, w .many, w .placed .size, omega (arith, n, part .inside, opened-facts _ (w .plain .opens) .bounds .records))
+    (not-deep _ _ (w .plain) _ _ _ part h _ (x .ensures) (c .before .if2 .taken), w .used, w .many, w .placed .size, omega (arith, part .inside, opened-facts _ (w .plain .opens) .bounds .records), omega (arith, n, part .inside, opened-facts _ (w .plain .opens) .bounds .records))
 
 same-length : tie.Need-same-length
 same-length c = search needs
 
 returns-2 : tie.Need-returns-2
 returns-2 c =
-    let a = c .before .before .before .before .before .before .before .before .before .before .before .before .before .before .before .before .before in
-    ensured _ _ _ _ _ _ _ _ _ _ _ _ _ (a .pre .1) (λ k w. at-test _ _ _ _ _ _ _ (a .pre .0) k w (before-end (c .before .before .before .before .before .before .before .before)) _ (c .before .before .before .before .before .before .record-at .ensures) (c .before .before .before .before .if2 .taken) _ (c .before .before .test .ensures)) (same-all _ _) (same-all _ _) (same-all _ _)
+    let a = c .before .before .before .before .before .before .before .before .before .before .before .before .before .before .before .before in
+    ensured _ _ _ _ _ _ _ _ _ _ _ _ _ (a .pre .1) (λ k w. at-test _ _ _ _ _ _ _ (a .pre .0) k w (before-end (c .before .before .before .before .before .before .before)) _ (c .before .before .before .before .before .before .record-at .ensures) (c .before .before .before .before .if2 .taken) _ (c .before .before .test .ensures)) (same-all _ _) (same-all _ _) (same-all _ _)
 
 cast-a : tie.Need-cast-a
 cast-a c = search needs
@@ -97,7 +94,7 @@ mul-first : tie.Need-mul-first
 mul-first c = search needs
 
 slice-read-first : tie.Need-slice-read-first
-slice-read-first c = let w = c .before .before .before .before .before .before .before .before .before .before .before .before .before .before .before .pre .1 .stands in omega (arith, array-there (c .before), opened-facts _ (w .plain .opens) .bounds .header .arrays, w .placed .size)
+slice-read-first c = let w = c .before .before .before .before .before .before .before .before .before .before .before .before .before .before .pre .1 .stands in omega (arith, array-there (c .before), opened-facts _ (w .plain .opens) .bounds .header .arrays, w .placed .size)
 
 add-next : tie.Need-add-next
 add-next c = search needs
@@ -106,7 +103,7 @@ mul-next : tie.Need-mul-next
 mul-next c = search needs
 
 slice-read-next : tie.Need-slice-read-next
-slice-read-next c = let w = c .before .before .before .before .before .before .before .before .before .before .before .before .before .before .before .before .pre .1 .stands in omega (arith, array-there (c .before .before), opened-facts _ (w .plain .opens) .bounds .header .arrays, w .placed .size)
+slice-read-next c = let w = c .before .before .before .before .before .before .before .before .before .before .before .before .before .before .before .pre .1 .stands in omega (arith, array-there (c .before .before), opened-facts _ (w .plain .opens) .bounds .header .arrays, w .placed .size)
 
 first-cell-requires : tie.Need-first-cell-requires
 first-cell-requires c κs = let r = able-here c in omega (arith, r .rooms .few, r .rooms .in-own .order)
@@ -120,7 +117,7 @@ acted-on-requires c κs = search needs
 act-requires : tie.Need-act-requires
 act-requires c κs =
     let r = able-here (c .before .before .before .before .before .before) in
-    (rw (c .before .before .before .acted-on .ensures (c .before .before .before .before .before .before .before .before .before .before .before .before .before .before .before .before .before .before .before .before .before .before .args .room .now)) (r .low), r .kind .0, r .kind .1, r .array, rw (c .before .before .before .before .before .first-cell .ensures, c .before .before .before .before .next-cell .ensures) (r .rooms))
+    (rw (c .before .before .before .acted-on .ensures (c .before .before .before .before .before .before .before .before .before .before .before .before .before .before .before .before .before .before .before .before .before .args .room .now)) (r .low), r .kind .0, r .kind .1, r .array, rw (c .before .before .before .before .before .first-cell .ensures, c .before .before .before .before .next-cell .ensures) (r .rooms))
 
 enum-known-s : tie.Need-enum-known-s
 enum-known-s c = search needs
@@ -129,10 +126,10 @@ past-requires : tie.Need-past-requires
 past-requires c κs = able-here (c .before .before .before .before .before .before .before .before .before .before .before .before .before .before .before .before) .few
 
 settle-requires : tie.Need-settle-requires
-settle-requires c κs = let w = c .before .before .before .before .before .before .before .before .before .before .before .before .before .before .before .before .before .before .before .before .before .before .before .before .before .before .before .before .before .before .before .before .before .before .pre .1 .stands .placed in (rw (ap (λ (x : Spot). x .depth) (c .before .past .ensures [])) (w .shallow), w .size)
+settle-requires c κs = let w = c .before .before .before .before .before .before .before .before .before .before .before .before .before .before .before .before .before .before .before .before .before .before .before .before .before .before .before .before .before .before .before .before .before .pre .1 .stands .placed in (rw (ap (λ (x : Spot). x .depth) (c .before .past .ensures [])) (w .shallow), w .size)
 
 moved-requires : tie.Need-moved-requires
-moved-requires c κs = search needs
+moved-requires c κs = let h = able-here (c .before .before .before .before .before .before .before .before .before .before .before .before .before .before .before .before .before .before .before) .few in omega arith
 
 tally-of-requires : tie.Need-tally-of-requires
 tally-of-requires c κs = search needs
@@ -140,8 +137,11 @@ tally-of-requires c κs = search needs
 enum-known-c : tie.Need-enum-known-c
 enum-known-c c = search needs
 
-ended-requires-2 : tie.Need-ended-requires-2
-ended-requires-2 c κs = search needs
+cast-t43 : tie.Need-cast-t43
+cast-t43 c = let h = able-here (c .before .before .before .before .before .before .before .before .before .before .before .before .before .before .before .before .before) .few in omega arith
+
+over-requires-2 : tie.Need-over-requires-2
+over-requires-2 c κs = search needs
 
 same-length-2 : tie.Need-same-length-2
 same-length-2 c = c .before .before .before .before .before .before .before .before .before .before .before .before .before .before .act .ensures .1 .0 .size
@@ -157,7 +157,7 @@ same-length-5 c = search needs
 
 returns-3 : tie.Need-returns-3
 returns-3 c =
-    let a = c .before .before .before .before .before .before .before .before .before .before .before .before .before .before .before .before .before .before .before .before .before .before .before .before .before .before .before .before .before .before .before .before .before .before .before .before .before in
+    let a = c .before .before .before .before .before .before .before .before .before .before .before .before .before .before .before .before .before .before .before .before .before .before .before .before .before .before .before .before .before .before .before .before .before .before .before .before in
     let n = c .before .before .before .before .before .before .before .before .before .before .before .before .before .before .before .before .before .before .before .before .before in
     let r = able-here n in
     let x = c .before .before .before .before .before .before .before .before .before .before .before .before .before .before .before .before .before .before .before .before .before .before .before .before .before .before .record-at in
@@ -167,7 +167,7 @@ returns-3 c =
     let held = rw (c .before .before .before .before .before .before .before .before .before .before .before .before .before .before .before .before .before .before .acted-on .ensures (a .args .room .now)) at acts in
     let i : c .before .before .before .before .before .before .before .before .before .before .before .before .before .before .before .before .before .before .before .next-cell .result ≤ cells (arrays-of (a .args .plan .now)) = rw (c .before .before .before .before .before .before .before .before .before .before .before .before .before .before .before .before .before .before .before .next-cell .ensures) (r .inside) in
     ensured _ _ _ _ _ _ _ _ _ _ _ _ _ (a .pre .1)
-    (λ k w. rw (c .before .moved .ensures (a .args .room .now), c .before .before .settle .ensures ∙ ap settled (c .before .before .before .before .past .ensures (a .args .room .now)), c .tally-of .ensures) (rw (c .before .before .before .before .before .before .s .given .1) at (at-record _ _ _ _ _ _ _ (a .pre .0) k w (before-end (c .before .before .before .before .before .before .before .before .before .before .before .before .before .before .before .before .before .before .before .before .before .before .before .before .before .before .before .before)) _ (x .ensures) (r .kind .1) _ _ (a .pre .1 .stands .starts .first _ (omega arith)) (a .pre .1 .stands .starts .first _ (omega arith)) (v .result) _ _ _ held)))
+    (λ k w. rw (c .before .moved .ensures (a .args .room .now), c .before .before .settle .ensures ∙ ap settled (c .before .before .before .before .past .ensures (a .args .room .now)), c .tally-of .ensures) (rw (c .before .before .before .before .before .before .s .given .1) at (at-record _ _ _ _ _ _ _ (a .pre .0) k w (before-end (c .before .before .before .before .before .before .before .before .before .before .before .before .before .before .before .before .before .before .before .before .before .before .before .before .before .before .before)) _ (x .ensures) (r .kind .1) _ _ (a .pre .1 .stands .starts .first _ (omega arith)) (a .pre .1 .stands .starts .first _ (omega arith)) (v .result) _ _ _ held)))
     (same-more i (v .ensures .1 .0)) (same-more i (v .ensures .1 .1 .0)) (same-more i (v .ensures .1 .1 .1))
 
 same-length-6 : tie.Need-same-length-6
@@ -182,25 +182,24 @@ same-length-8 c = search needs
 returns-4 : tie.Need-returns-4
 returns-4 c =
     let a = c .before .before .before .before .before .before .before .before .before .before .before .before .before .before .before .before .before .before .before .before .before .before .before .before .before .before .before .before .before .before .before .before .before in
-    let n = c .before .before .before .before .before .before .before .before .before .before .before .before .before .before .before .before .before in
+    let n = c .before .before .before .before .before .before .before .before .before .before .before .before .before .before .before .before .before .before in
     let r = able-here n in
-    let x = c .before .before .before .before .before .before .before .before .before .before .before .before .before .before .before .before .before .before .before .before .before .before .record-at in
-    let v = c .before .before .before .before .before .before .before .before .before .before .act in
-    let there = array-there (c .before .before .before .before .before .before .before .before .before .before .before .before .before .before .before .before .before .before .before) in
-    let acts = v .ensures .0 (arrays-of (a .args .plan .now)) (rw (c .before .before .before .before .before .before .before .before .before .before .before .before .before .before .before .before .first-cell .ensures, c .before .before .before .before .before .before .before .before .before .before .before .before .before .before .before .next-cell .ensures) (r .spans)) in
-    let held = rw (c .before .before .before .before .before .before .before .before .before .before .before .before .before .before .acted-on .ensures (a .args .room .now)) at acts in
-    let i : c .before .before .before .before .before .before .before .before .before .before .before .before .before .before .before .next-cell .result ≤ cells (arrays-of (a .args .plan .now)) = rw (c .before .before .before .before .before .before .before .before .before .before .before .before .before .before .before .next-cell .ensures) (r .inside) in
+    let x = c .before .before .before .before .before .before .before .before .before .before .before .before .before .before .before .before .before .before .before .before .before .before .before .record-at in
+    let v = c .before .before .before .before .before .before .before .before .before .before .before .act in
+    let there = array-there (c .before .before .before .before .before .before .before .before .before .before .before .before .before .before .before .before .before .before .before .before) in
+    let acts = v .ensures .0 (arrays-of (a .args .plan .now)) (rw (c .before .before .before .before .before .before .before .before .before .before .before .before .before .before .before .before .before .first-cell .ensures, c .before .before .before .before .before .before .before .before .before .before .before .before .before .before .before .before .next-cell .ensures) (r .spans)) in
+    let held = rw (c .before .before .before .before .before .before .before .before .before .before .before .before .before .before .before .acted-on .ensures (a .args .room .now)) at acts in
+    let i : c .before .before .before .before .before .before .before .before .before .before .before .before .before .before .before .before .next-cell .result ≤ cells (arrays-of (a .args .plan .now)) = rw (c .before .before .before .before .before .before .before .before .before .before .before .before .before .before .before .before .next-cell .ensures) (r .inside) in
     ensured _ _ _ _ _ _ _ _ _ _ _ _ _ (a .pre .1)
-    (λ k w. rw (c .ended2 .ensures (a .args .room .now)) (rw (c .before .before .c .given .1) at (at-record _ _ _ _ _ _ _ (a .pre .0) k w (before-end (c .before .before .before .before .before .before .before .before .before .before .before .before .before .before .before .before .before .before .before .before .before .before .before .before)) _ (x .ensures) (r .kind .1) _ _ (a .pre .1 .stands .starts .first _ (omega arith)) (a .pre .1 .stands .starts .first _ (omega arith)) (v .result) _ _ _ held)))
+    (λ k w. rw (c .over2 .ensures .0 (a .args .room .now), c .over2 .ensures .1) (rw (c .before .before .before .c .given .1) at (at-record _ _ _ _ _ _ _ (a .pre .0) k w (before-end (c .before .before .before .before .before .before .before .before .before .before .before .before .before .before .before .before .before .before .before .before .before .before .before .before)) _ (x .ensures) (r .kind .1) _ _ (a .pre .1 .stands .starts .first _ (omega arith)) (a .pre .1 .stands .starts .first _ (omega arith)) (v .result) _ _ _ held)))
     (same-more i (v .ensures .1 .0)) (same-more i (v .ensures .1 .1 .0)) (same-more i (v .ensures .1 .1 .1))
 
 pub step-spec : {M : Type 1} → statement M
 step-spec =
     tie.close
     (tie.spec
-    ended-requires
+    over-requires
     returns
-    cast-record-at
     record-at-requires
     test-requires
     same-length
@@ -221,7 +220,8 @@ step-spec =
     moved-requires
     tally-of-requires
     enum-known-c
-    ended-requires-2
+    cast-t43
+    over-requires-2
     same-length-2
     same-length-3
     same-length-4

@@ -12,15 +12,15 @@ use Rattle.machine.proofs.moved.Reads as moved-reads
 use Rattle.machine.proofs.place.choose.Reads as choose-reads
 use Rattle.machine.proofs.place.settle.Reads as settle-reads
 
-cast-used : tie.Need-cast-used
-cast-used c = search needs
+cast-t10 : tie.Need-cast-t10
+cast-t10 c = search needs
 
 ended-requires : tie.Need-ended-requires
 ended-requires c κs = search needs
 
 returns : tie.Need-returns
 unfolding tested
-returns c = rw (eq-eqb _ _ (c .before .if1 .taken)) (c .ended .ensures _)
+returns c = rw (eq-eqb _ _ (c .before .before .if1 .taken)) (c .ended .ensures _)
 
 shared-slice-read-choose : tie.Need-shared-slice-read-choose
 shared-slice-read-choose c = search needs
@@ -29,7 +29,7 @@ choose-requires : tie.Need-choose-requires
 choose-requires c κs = search needs
 
 settle-requires : tie.Need-settle-requires
-settle-requires c κs = let h = chosen-depth _ _ _ _ (c .before .before .before .choose .ensures) (c .before .before .before .before .before .before .before .before .before .before .before .pre .0) in search (needs, h)
+settle-requires c κs = let h = chosen-depth _ _ _ _ (c .before .before .before .choose .ensures) (c .before .before .before .before .before .before .before .before .before .before .pre .0) in search (needs, h)
 
 moved-requires : tie.Need-moved-requires
 moved-requires c κs = search needs
@@ -45,7 +45,7 @@ pub test-spec : {M : Type 1} → statement M
 test-spec =
     tie.close
     (tie.spec
-    cast-used
+    cast-t10
     ended-requires
     returns
     shared-slice-read-choose

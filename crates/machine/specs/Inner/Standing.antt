@@ -73,6 +73,10 @@ skipped p at = record { at = at; end = p .end; depth = p .depth; used = p .used 
 abbrev pub left-arm : Spot → Spot
 left-arm p = record { at = getD (p .room) (49 + (p .depth - 1)) 0; end = getD (p .room) (33 + (p .depth - 1)) 0; depth = p .depth - 1; used = p .used; room = p .room }
 
+-- into an arm; an empty one is passed over
+unfoldable pub into : Spot → ℕ → ℕ → ℕ → Spot
+into p at end back = cond (eqb at end) (skipped p back) (entered p at end back)
+
 -- past a record without arms
 abbrev pub past-record : Spot → Spot
 past-record p = record { at = p .at + 1; end = p .end; depth = p .depth; used = p .used; room = p .room }
@@ -92,8 +96,8 @@ chosen p x choice =
     let second = p .at + 1 + first-arm x in
     let next = second + second-arm x in
     cond (eqb (x .kind) 6)
-    (cond (eqb choice 0) (entered p second next next) (entered p (p .at + 1) second next))
-    (cond (eqb choice 0) (skipped p next) (entered p (p .at + 1) second (p .at)))
+    (cond (eqb choice 0) (into p second next next) (into p (p .at + 1) second next))
+    (cond (eqb choice 0) (skipped p next) (into p (p .at + 1) second (p .at)))
 
 -- the run has ended
 abbrev pub ended-with : Runner → Verdict → Runner

@@ -1,4 +1,5 @@
 -- `run_opened` meets the promise of the run, with the tally by value.
+use native.Mathlib.Omega.{arith}
 use mathlib.Core.Path.{_≡_, sym, _∙_}
 use Rattle.model.specs.declared.Verdict.the-variants.{Accepted}
 use Rattle.model.specs.Rows.{first}
@@ -41,7 +42,7 @@ run-to-end-requires c κs =
     record { found = c .before .before .before .before .before .before .before .before .before .before .before .before .before .before .pre; opens = b .opens; kind = b .kind; own-room = b .host-room; others-room = b .card-room; latest-room = b .latest-room; few = b .few }
 
 end-of-requires : tie.Need-end-of-requires
-end-of-requires c κs = search needs
+end-of-requires c κs = let w = c .before .before .before .before .before .before .before .before .run-to-end .ensures .0 .reaches .stands in omega (arith, w .used, w .many)
 
 same-length-4 : tie.Need-same-length-4
 same-length-4 c = search needs

@@ -8,8 +8,8 @@ use Rattle.machine.proofs.place.enter.Tie as tie
 use Rattle.machine.proofs.place.enter.Reads as reads
 use Rattle.machine.proofs.place.enter.Lts as lts
 
-cast-d : tie.Need-cast-d
-cast-d c = search needs
+cast-room : tie.Need-cast-room
+cast-room c = search needs
 
 add-room : tie.Need-add-room
 add-room c = search needs
@@ -20,6 +20,9 @@ mul-room c = search needs
 slice-write-room : tie.Need-slice-write-room
 slice-write-room c = let h : 33 + c .before .args .p .depth < length (c .before .args .room .now) = omega (arith, c .before .pre) in search (needs, h)
 
+cast-room-2 : tie.Need-cast-room-2
+cast-room-2 c = search needs
+
 add-room-2 : tie.Need-add-room-2
 add-room-2 c = search needs
 
@@ -29,11 +32,11 @@ mul-room-2 c = search needs
 slice-write-room-2 : tie.Need-slice-write-room-2
 slice-write-room-2 c = let h : 49 + c .before .args .p .depth < length (c .before .args .room .now) = omega (arith, c .before .pre) in search (needs, h)
 
-add-t11 : tie.Need-add-t11
-add-t11 c = search needs
+add-t9 : tie.Need-add-t9
+add-t9 c = search needs
 
-add-t12 : tie.Need-add-t12
-add-t12 c = search needs
+add-t8 : tie.Need-add-t8
+add-t8 c = search needs
 
 same-length : tie.Need-same-length
 same-length c = search needs
@@ -45,14 +48,15 @@ pub enter-spec : {M : Type 1} → statement M
 enter-spec =
     tie.close
     (tie.spec
-    cast-d
+    cast-room
     add-room
     mul-room
     slice-write-room
+    cast-room-2
     add-room-2
     mul-room-2
     slice-write-room-2
-    add-t11
-    add-t12
+    add-t9
+    add-t8
     same-length
     returns)
