@@ -2,3 +2,4 @@
 pub mod Entries
 pub mod Places
 pub mod Bounds
+pub mod Found

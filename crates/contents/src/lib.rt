@@ -1,6 +1,7 @@
 // Numbers 1 to 7: the header, the contents, the tail.
 ghost use mathlib.Core.Path.{_≡_};
 ghost use Prim.Native.Nat.{_≤_};
+ghost use lib.ListN.{length};
 ghost use Rattle.model.specs.Rows.{first, each};
 ghost use Rattle.reading.specs.Bytes.{array-count, body-count, record-count, bodies-at};
 ghost use Rattle.contents.specs.Contents.{header-rows, array-rows, body-rows, tail-rows, front-rows};
@@ -8,7 +9,7 @@ ghost use Rattle.contents.specs.Found.{nothing-found, found, found-by};
 use model::Verdict;
 use reading::byte;
 use reading::entry_at;
-use reading::u16_at;
+use reading::number_at;
 use sums::check_sums;
 
 // What opening gives: the answer, and what was found in a file that opens.
@@ -62,9 +63,9 @@ pub fn header(plan: &[u8]) -> Verdict
     Verdict::Accepted
 }
 
-// Number 4.
+// Number 4, where number 3 does not hold.
 pub fn array_entries(plan: &[u8]) -> Arrays
-    requires { ⌜ array-count (now plan) ≤ 32 ⌝ }
+    requires { ⌜ (array-count (now plan) ≤ 32) × (bodies-at (now plan) ≤ length (now plan)) ⌝ }
     ensures verdict { λ r. ⌜ r .verdict ≡ first (each (array-count (now (plan .entry))) (array-rows (now (plan .entry)))) ⌝ }
     ensures cells { λ r. ⌜ (r .verdict ≡ Verdict.Accepted → r .cells ≡ found (now (plan .entry)) .cells) ⌝ }
     ensures starts { λ r. ⌜ (r .verdict ≡ Verdict.Accepted → r .starts ≡ found (now (plan .entry)) .«array_starts») ⌝ }
@@ -74,7 +75,7 @@ pub fn array_entries(plan: &[u8]) -> Arrays
     let mut cells: u32 = 0;
     let mut a: usize = 0;
     while a < arrays {
-        let n = u16_at(plan, 4 + 2 * a);
+        let n = number_at(plan, 4 + 2 * a);
         let total = cells + (n as u32);
         if !((1 <= n) & (n <= 4096)) | (4096 < total) {
             return Arrays {
@@ -94,9 +95,9 @@ pub fn array_entries(plan: &[u8]) -> Arrays
     }
 }
 
-// Number 5.
+// Number 5, where number 3 does not hold.
 pub fn body_entries(plan: &[u8]) -> Bodies
-    requires { ⌜ body-count (now plan) ≤ 32 ⌝ }
+    requires { ⌜ (body-count (now plan) ≤ 32) × (bodies-at (now plan) ≤ length (now plan)) ⌝ }
     ensures verdict { λ r. ⌜ r .verdict ≡ first (each (body-count (now (plan .entry))) (body-rows (now (plan .entry)))) ⌝ }
     ensures records { λ r. ⌜ (r .verdict ≡ Verdict.Accepted → (r .records ≡ record-count (now (plan .entry))) × (r .records ≤ 1024)) ⌝ }
     ensures starts { λ r. ⌜ (r .verdict ≡ Verdict.Accepted → r .starts ≡ found (now (plan .entry)) .«body_starts») ⌝ }
@@ -109,7 +110,7 @@ pub fn body_entries(plan: &[u8]) -> Bodies
     let mut b: usize = 0;
     while b < bodies {
         let at = entry_at(plan, b);
-        let n = u16_at(plan, at);
+        let n = number_at(plan, at);
         let d = byte(plan, at + 2);
         let zero = byte(plan, at + 3);
         let total = records + (n as u32);

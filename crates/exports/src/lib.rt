@@ -60,7 +60,7 @@ pub extern "C" fn plan_expand(plan: &[u8], out: &mut [u8]) -> u64
     let o = format::open(plan);
     let kind = o.kind;
     let judged = judge::judge_opened(plan, o);
-    let v = expand::expand_judged(plan, out, judged);
+    let v = expand::expand_judged(plan, o, out, judged);
     pack_answer(kind, v, 0)
 }
 

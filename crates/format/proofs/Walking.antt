@@ -1,28 +1,26 @@
 -- What those who walk a file that opens cite: what opening found, the file's bounds, and the parts of a block whose records pass their tests.
 use mathlib.Core.Path.{_≡_, ap, sym, _∙_}
-use mathlib.Core.Bool.{cond, true}
+use mathlib.Core.Bool.{true}
 use mathlib.Core.List.{List}
 use Prim.Native.Nat.{ℕ, zero, suc, _+_, _≤_, _<_}
 use native.Mathlib.Omega.{arith}
-use lib.Dec.{ltb, leb}
-use lib.ListN.{getD}
-use borrow.Author.Tests.{lt-ltb, le-leb}
+use borrow.Author.Tests.{lt-ltb}
 use Rattle.model.specs.declared.Verdict.the-variants.{Accepted}
-use Rattle.model.specs.Sides.{first-of}
 use Rattle.reading.specs.declared.Fields.{Fields}
 use Rattle.contents.specs.declared.Opened.{Opened}
 use Rattle.model.specs.Rows.{first}
-use Rattle.reading.specs.Bytes.{array-count, body-count, arrays-of, records-in, declarations-in, first-record, fields-at, first-arm, second-arm}
+use Rattle.reading.specs.Bytes.{body-count, records-in, first-record, fields-at, first-arm, second-arm}
 use Rattle.records.specs.Records.{fields-fit, block-rows, record-rows, records-rows}
 use Rattle.format.specs.Opening.{opening, opened}
 use Rattle.contents.specs.Found.{found, found-by}
 use Rattle.format.specs.Inner.Walks.{Good, Walkable}
 use Rattle.model.proofs.Rows.{passed, each-passed}
-use Rattle.reading.proofs.Tables.{getD-table, next-record}
+use Rattle.reading.proofs.Tables.{next-record}
 use Rattle.records.proofs.Records.{Tests, tests-of}
 use Rattle.format.proofs.Opening.{open-parts}
 use Rattle.contents.proofs.Places.{answer}
 use Rattle.contents.proofs.Bounds.{Bounds, bounds-of}
+pub use Rattle.contents.proofs.Found.{array-start, body-start, declarations-at}
 
 -- what `open` gave
 module _ (f : List ℕ) (o : Opened) (e : o ≡ opened f) where
@@ -33,17 +31,6 @@ module _ (f : List ℕ) (o : Opened) (e : o ≡ opened f) where
   pub found-is : o .verdict ≡ Accepted → o ≡ found f
   unfolding opened
   found-is a = e ∙ ap (found-by f) (sym verdict-is ∙ a)
-
--- what was found, entry by entry
-module _ (f : List ℕ) (o : Opened) (e : o ≡ found f) (w : Bounds f) where
-  pub array-start : (a : ℕ) → a ≤ array-count f → getD (o .«array_starts») a 0 ≡ first-of (arrays-of f) a
-  array-start a h = rw (e, getD-table (λ k. cond (leb k (array-count f)) (first-of (arrays-of f) k) 0) 33 a 0 (omega (arith, w .header .arrays)), le-leb a (array-count f) h)
-
-  pub body-start : (b : ℕ) → b ≤ body-count f → getD (o .«body_starts») b 0 ≡ first-record f b
-  body-start b h = rw (e, getD-table (λ k. cond (leb k (body-count f)) (first-record f k) 0) 33 b 0 (omega (arith, w .header .bodies)), le-leb b (body-count f) h)
-
-  pub declarations-at : (b : ℕ) → b < body-count f → getD (o .declarations) b 0 ≡ declarations-in f b
-  declarations-at b h = rw (e, getD-table (λ k. cond (ltb k (body-count f)) (declarations-in f k) 0) 32 b 0 (omega (arith, w .header .bodies)), lt-ltb b (body-count f) h)
 
 -- what holds of a file that opens
 pub record Facts (f : List ℕ) : Type 0 where

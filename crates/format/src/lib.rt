@@ -19,7 +19,7 @@ pub fn open(plan: &[u8]) -> Opened
     let Verdict::Accepted = front else {
         return o;
     };
-    let tested = all_records(plan);
+    let tested = all_records(plan, o);
     let Verdict::Accepted = tested else {
         return nothing_found(tested);
     };

@@ -16,7 +16,7 @@ use Rattle.model.specs.Effects.{copy, need, mark}
 use Rattle.model.specs.Judging.{R, W, RW, Declaration, permits, every, declared-once, Written, Rules, Accepts}
 use Rattle.reading.specs.declared.Fields.{Fields}
 use Rattle.model.specs.Rows.{row, first, each}
-use Rattle.reading.specs.Bytes.{kind-of, body-count, arrays-of, records-in, declarations-in, first-record, fields-at, between}
+use Rattle.reading.specs.Bytes.{kind-of, body-count, arrays-of, records-in, declarations-in, first-record, bodies-at, fields-at, between}
 use Rattle.format.specs.Opening.{open-rows, opening}
 use Rattle.format.specs.Plans.{side-of, action-of, declaration-of, pass-at, declared-plan-of}
 use Rattle.reading.proofs.Ranges.{in-range, out-of-range}
@@ -81,10 +81,10 @@ use-kept ds x r low high = elim (decLt (x .kind) 3) [
 -- pass b of a declared plan that opens, number by number
 module _ (f : List ℕ) (a : Accepted ≡ opening f) (k : kind-of f ≡ 1) (b : ℕ) (low : 1 ≤ b) (high : b < body-count f) where
   abbrev extent : Extent
-  extent = record { body = b; from = first-record f b; declarations = declarations-in f b; records = records-in f b }
+  extent = record { bodies = bodies-at f; body = b; from = first-record f b; declarations = declarations-in f b; records = records-in f b }
 
   here : PassAt f extent
-  here = record { opens = a; declared = k; low = low; high = high; from-is = refl; declarations-are = refl; records-are = refl }
+  here = record { opens = a; declared = k; place = refl; low = low; high = high; from-is = refl; declarations-are = refl; records-are = refl }
 
   -- 12
   once-kept : ((i : ℕ) → i < declarations-in f b → Accepted ≡ first (record-rows f b i)) ↔ (declared-once (pass-at f b .declarations) ≡ true)

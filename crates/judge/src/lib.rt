@@ -11,8 +11,9 @@ mod passes;
 mod permits;
 mod written;
 
-// Where a pass stands: its body's number, its first record, how many declarations it has and how many records with them.
+// Where a pass stands: where the bodies begin in the file, its body's number, its first record, how many declarations it has and how many records with them.
 pub struct Extent {
+    pub bodies: usize,
     pub body: usize,
     pub from: usize,
     pub declarations: usize,

@@ -37,6 +37,7 @@ pub fn all_passes(plan: &[u8], o: Opened) -> Verdict
     requires { ⌜ (Accepted ≡ opening (now plan)) × (kind-of (now plan) ≡ 1) × (o ≡ found (now plan)) ⌝ }
     ensures { λ v. ⌜ v ≡ first (each (body-count (now (plan .entry)) - 1) (λ (b : ℕ). pass-rows (now (plan .entry)) (suc b))) ⌝ }
 {
+    let offset = o.offset as usize;
     let bodies = o.bodies as usize;
     let array_starts = o.array_starts;
     let body_starts = o.body_starts;
@@ -46,6 +47,7 @@ pub fn all_passes(plan: &[u8], o: Opened) -> Verdict
         let from = body_starts[b] as usize;
         let end = body_starts[b + 1] as usize;
         let e = Extent {
+            bodies: offset,
             body: b,
             from: from,
             declarations: declarations[b] as usize,

@@ -9,7 +9,7 @@ use crate::Declared;
 use crate::Extent;
 use model::Verdict;
 use reading::Fields;
-use reading::fields_at;
+use reading::record_at;
 
 // Number 12, and the declarations by array.
 pub fn declarations(plan: &[u8], e: Extent) -> Declared
@@ -17,12 +17,13 @@ pub fn declarations(plan: &[u8], e: Extent) -> Declared
     ensures verdict { λ d. ⌜ d .verdict ≡ first (each (declarations-in (now (plan .entry)) (e .body)) (record-rows (now (plan .entry)) (e .body))) ⌝ }
     ensures found { λ d. ⌜ (d .verdict ≡ Verdict.Accepted → ByArray (now (plan .entry)) e d) ⌝ }
 {
+    let bodies = e.bodies;
     let mut kinds = [0u8; 32];
     let mut sides = [0u8; 32];
     let mut i: usize = 0;
     while i < e.declarations {
         let r = e.from + i;
-        let x = fields_at(plan, r);
+        let x = record_at(plan, bodies, r);
         let a = x.array as usize;
         if kinds[a] != 0 {
             return Declared {
@@ -71,12 +72,13 @@ pub fn uses(plan: &[u8], e: Extent, d: Declared) -> Verdict
     requires { ⌜ PassAt (now plan) e × ByArray (now plan) e d ⌝ }
     ensures { λ v. ⌜ v ≡ first (each (records-in (now (plan .entry)) (e .body)) (record-rows (now (plan .entry)) (e .body))) ⌝ }
 {
+    let bodies = e.bodies;
     let kinds = d.kinds;
     let sides = d.sides;
     let mut i = e.declarations;
     while i < e.records {
         let r = e.from + i;
-        let x = fields_at(plan, r);
+        let x = record_at(plan, bodies, r);
         let a = x.array as usize;
         let v = use_tests(r, x, kinds[a], sides[a]);
         let Verdict::Accepted = v else {

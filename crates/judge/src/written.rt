@@ -10,22 +10,23 @@ use crate::Extent;
 use marks::mark_written;
 use marks::met;
 use model::Verdict;
-use reading::fields_at;
+use reading::record_at;
 
 // Number 15: the lowest declaration of a pass that is not met.
 pub fn unmet(plan: &[u8], starts: &[u16; 33], e: Extent, d: Declared) -> Verdict
     requires { ⌜ PassAt (now plan) e × ByArray (now plan) e d × Tables (now plan) (now starts) (d .sides) ⌝ }
     ensures { λ v. ⌜ v ≡ first (each (declarations-in (now (plan .entry)) (e .body)) (w-rows (now (plan .entry)) (e .body))) ⌝ }
 {
+    let bodies = e.bodies;
     let until = e.from + e.declarations;
     let end = e.from + e.records;
     let sides = d.sides;
     let mut set = [false; 4096];
-    mark_written(plan, starts, &sides, &mut set, until, end);
+    mark_written(plan, bodies, starts, &sides, &mut set, until, end);
     let mut i: usize = 0;
     while i < e.declarations {
         let r = e.from + i;
-        let x = fields_at(plan, r);
+        let x = record_at(plan, bodies, r);
         if !met(starts, &set, x) {
             return Verdict::Refused(15, r as u16);
         }

@@ -12,6 +12,7 @@ use lib.ListN.{length, getD, set, replicate, length-replicate, length-set}
 use lib.Seq.{getD-set-same, getD-set-other}
 use borrow.Author.Tests.{lt-ltb, le-ltb, le-leb, lt-leb, eq-eqb, ne-eqb}
 use Rattle.reading.specs.declared.Fields.{Fields}
+use Rattle.reading.specs.Inner.Cells.{from-of, to-of}
 use Rattle.marks.specs.Inner.Marks.{marked, Adds, all-marked, hits, met}
 
 same-below : (k c : ℕ) → (k ≡ c → ⊥) → ltb k c ≡ ltb k (c + 1)
@@ -95,10 +96,10 @@ module _ (starts sides : List ℕ) (x : Fields) (before : List Bool) where
   unfolding hits
   hits-side n s = none n (λ c. rw (ne-eqb (x .side) (getD sides (x .array) 0) s) (and-false (eqb (x .kind) 2)))
 
-  pub hits-write : x .kind ≡ 2 → x .side ≡ getD sides (x .array) 0 → (after : List Bool) →
-      Adds before after (λ c. leb (getD starts (x .array) 0 + x .p) c && ltb c (getD starts (x .array) 0 + x .q)) → Adds before after (hits starts sides x)
+  pub hits-write : x .kind ≡ 2 → x .side ≡ getD sides (x .array) 0 → (from to : ℕ) → from ≡ from-of x (getD starts (x .array) 0) → to ≡ to-of x (getD starts (x .array) 0) (getD starts (x .array + 1) 0) →
+      (after : List Bool) → Adds before after (λ c. leb from c && ltb c to) → Adds before after (hits starts sides x)
   unfolding hits
-  hits-write k s after m = record { size = m .size; marks = λ c l. m .marks c l ∙ rw (eq-eqb (x .kind) 2 k, eq-eqb (x .side) (getD sides (x .array) 0) s) }
+  hits-write k s from to a b after m = record { size = m .size; marks = λ c l. m .marks c l ∙ rw (a, b, eq-eqb (x .kind) 2 k, eq-eqb (x .side) (getD sides (x .array) 0) s) }
 
 -- whether all cells from c up to `end` are marked
 module _ (l : List Bool) (c end : ℕ) (h : c < end) where

@@ -7,7 +7,7 @@ use native.Nat.{ℕᴺ-discrete}
 use native.Mathlib.Omega.{arith}
 use lib.Dec.{eqb}
 use lib.ListN.{length, getD}
-use borrow.Author.Tests.{eq-eqb, ne-eqb}
+use borrow.Author.Tests.{eq-eqb, ne-eqb, le-leb}
 use Rattle.model.specs.Sides.{Side, is, Arrays, length-of, array-of, Cells, within}
 use Rattle.model.specs.Effects.{read, copy, need, mark}
 use Rattle.model.specs.Judging.{writes-cell}
@@ -89,7 +89,7 @@ module _ (f starts sides : List ℕ) (t : Tables f starts sides) where
 
       write-hits : (c : ℕ) → writes-cell (arrays-of f) (side-at c) c (action-of x) ≡ hits starts sides x c
       unfolding action-of hits
-      write-hits c = rw (ne-eqb (x .kind) 1 (λ z. omega arith), eq-eqb (x .kind) 2 k, write-side c _ refl, within-range (arrays-of f) (record { array = x .array; p = x .p; q = x .q }) c (fits .3), t .starts-are (x .array) (omega (arith, fits .1)))
+      write-hits c = rw (ne-eqb (x .kind) 1 (λ z. omega arith), eq-eqb (x .kind) 2 k, le-leb (x .kind) 3 (omega arith), write-side c _ refl, within-range (arrays-of f) (record { array = x .array; p = x .p; q = x .q }) c (fits .3), t .starts-are (x .array) (omega (arith, fits .1)))
 
     record-hits : (c : ℕ) → writes-cell (arrays-of f) (side-at c) c (action-of x) ≡ hits starts sides x c
     unfolding hits

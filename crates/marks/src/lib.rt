@@ -4,11 +4,13 @@ ghost use mathlib.Core.Bool.{_&&_};
 ghost use Prim.Native.Nat.{ℕ, _+_, _-_, _≤_, _<_};
 ghost use lib.Dec.{leb, ltb};
 ghost use lib.ListN.{length, getD};
+ghost use Rattle.reading.specs.Inner.Places.{Inside};
 ghost use Rattle.format.specs.Inner.Walks.{Walkable};
 ghost use Rattle.marks.specs.Inner.Marks.{marked, Adds, all-marked, Tables, hits, always, met};
 use reading::Fields;
-use reading::fields_at;
+use reading::cells_of;
 use reading::first_arm;
+use reading::record_at;
 use reading::second_arm;
 
 // Marks the cells from `from` up to `end`.
@@ -44,35 +46,35 @@ pub fn mark_record(starts: &[u16; 33], sides: &[u8; 32], set: &mut [bool; 4096],
         return;
     }
     let a = x.array as usize;
-    let start = starts[a] as usize;
-    let side = sides[a];
-    if x.side == side {
-        mark(set, start + (x.p as usize), start + (x.q as usize));
+    if x.side == sides[a] {
+        let cells = cells_of(x, starts);
+        mark(set, cells.from, cells.to);
     }
 }
 
 // Marks the cells that every way through the records r up to `end` writes.
 pub fn mark_written(
     plan: &[u8],
+    bodies: usize,
     starts: &[u16; 33],
     sides: &[u8; 32],
     set: &mut [bool; 4096],
     r: usize,
     end: usize,
 )
-    requires { ⌜ (length (now set) ≡ 4096) × Tables (now plan) (now starts) (now sides) × (r ≤ end) × (end ≤ 1024) × Walkable (now plan) r end ⌝ }
+    requires { ⌜ (length (now set) ≡ 4096) × Tables (now plan) (now starts) (now sides) × (r ≤ end) × (end ≤ 1024) × Inside (now plan) bodies end × Walkable (now plan) r end ⌝ }
     ensures { λ _. ⌜ Adds (now (set .entry)) (now (set .exit)) (always (now (plan .entry)) (now (sides .entry)) r end) ⌝ }
 {
     let mut at = r;
     while at < end {
-        let x = fields_at(plan, at);
+        let x = record_at(plan, bodies, at);
         let second = at + 1 + first_arm(x);
         let next = second + second_arm(x);
         if x.kind == 6 {
             let mut one = [false; 4096];
             let mut two = [false; 4096];
-            mark_written(plan, starts, sides, &mut one, at + 1, second);
-            mark_written(plan, starts, sides, &mut two, second, next);
+            mark_written(plan, bodies, starts, sides, &mut one, at + 1, second);
+            mark_written(plan, bodies, starts, sides, &mut two, second, next);
             mark_both(set, &one, &two);
         } else {
             mark_record(starts, sides, set, x);

@@ -4,8 +4,8 @@ use mathlib.Core.List.{List}
 use Prim.Native.Nat.{ℕ, _+_, _*_, _-_, _≤_, _<_}
 use native.Mathlib.Numerals.{add-one}
 use native.Mathlib.Omega.{arith}
-use lib.ListN.{getD, take, drop}
-use lib.Seq.{getD-take, getD-drop}
+use lib.ListN.{length, getD, take, drop, length-drop}
+use lib.Seq.{getD-take, getD-drop, length-take-le}
 use borrow.Author.Tests.{leb-false}
 use Rattle.model.specs.declared.Verdict.the-variants.{Accepted}
 use Rattle.model.specs.Sides.{first-of}
@@ -88,11 +88,13 @@ module _ (f : List ℕ) (o : Opened) (a : Accepted ≡ opening f) (e : o ≡ fou
         let n : first-record f (b + 1) ≡ first-record f b + records-in f b = rw add-one (next-record f b l) in
         let here = body-start f o e w b (omega arith) in
         let next = body-start f o e w (b + 1) (omega arith) in
+        let inside : body-at f b + 8 * records-in f b ≤ length f = omega (arith, w .long, first-rises (sizes-of f) (b + 1) (body-count f) (omega arith)) in
+        let long : 8 * records-in f b ≤ length (body-bytes f b) = omega (arith, length-take-le (8 * records-in f b) (drop (body-at f b) f) (simp length-drop (omega arith))) in
         let size : getD (o .«body_starts») (b + 1) 0 - getD (o .«body_starts») b 0 ≡ records-in f b = omega arith in
         record {
           entry = record { low = omega (arith, w .header .bodies); rises = omega arith };
           few = omega (arith, w .records, first-rises (sizes-of f) (b + 1) (body-count f) (omega arith));
-          lists = rw (is-body, size, here) (record { plan = f; walks = moved (first-record f b + 0) (first-record f b + records-in f b) (omega arith) (next-record f b l) (record { body = b; depth = 0; good = opened-facts f a .good b l }); same = record-near f b });
+          lists = rw (is-body, size, here) (record { long = long; plan = f; walks = moved (first-record f b + 0) (first-record f b + records-in f b) (omega arith) (next-record f b l) (record { body = b; depth = 0; good = opened-facts f a .good b l }); same = record-near f b });
         }
 
 -- what is known of record r's arms once they are read
@@ -108,7 +110,7 @@ parts {first = first} {r = r} {end = end} w h e i j p q =
     let n : r + 1 + i + j ≤ end = omega (arith, a .inside) in
     record {
       inside = n;
-      one = record { plan = w .plan; walks = moved (first + (r + 1)) (first + (r + 1 + i)) (omega arith) (omega arith) (a .one); same = λ k l. w .same k (omega arith) };
-      two = record { plan = w .plan; walks = moved (first + (r + 1 + i)) (first + (r + 1 + i + j)) (omega arith) (omega arith) (a .two); same = λ k l. w .same k (omega arith) };
-      rest = record { plan = w .plan; walks = moved (first + (r + 1 + i + j)) (first + end) (omega arith) refl (a .rest); same = w .same };
+      one = record { long = omega (arith, w .long); plan = w .plan; walks = moved (first + (r + 1)) (first + (r + 1 + i)) (omega arith) (omega arith) (a .one); same = λ k l. w .same k (omega arith) };
+      two = record { long = omega (arith, w .long); plan = w .plan; walks = moved (first + (r + 1 + i)) (first + (r + 1 + i + j)) (omega arith) (omega arith) (a .two); same = λ k l. w .same k (omega arith) };
+      rest = record { long = w .long; plan = w .plan; walks = moved (first + (r + 1 + i + j)) (first + end) (omega arith) refl (a .rest); same = w .same };
     }

@@ -1,6 +1,7 @@
 // The records of a body or of an arm, read from the body's own bytes.
 ghost use mathlib.Core.Path.{_≡_};
-ghost use Prim.Native.Nat.{_+_, _≤_, _<_};
+ghost use Prim.Native.Nat.{_+_, _*_, _≤_, _<_};
+ghost use lib.ListN.{length};
 ghost use Rattle.planlist.specs.Inner.Bodies.{fields-in, Listable};
 use crate::records::else_line;
 use crate::records::empty_line;
@@ -9,12 +10,12 @@ use console::page::Page;
 use reading::Fields;
 use reading::byte;
 use reading::first_arm;
+use reading::number_at;
 use reading::second_arm;
-use reading::u16_at;
 
 // The fields of record i of a body.
 fn record_in(body: &[u8], i: usize) -> Fields
-    requires { ⌜ i < 1024 ⌝ }
+    requires { ⌜ (i < 1024) × (8 * i + 8 ≤ length (now body)) ⌝ }
     ensures { λ x. ⌜ x ≡ fields-in (now (body .entry)) i ⌝ }
 {
     let at = 8 * i;
@@ -23,8 +24,8 @@ fn record_in(body: &[u8], i: usize) -> Fields
         side: byte(body, at + 1),
         array: byte(body, at + 2),
         zero: byte(body, at + 3),
-        p: u16_at(body, at + 4),
-        q: u16_at(body, at + 6),
+        p: number_at(body, at + 4),
+        q: number_at(body, at + 6),
     }
 }
 

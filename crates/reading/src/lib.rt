@@ -1,8 +1,9 @@
 // Reading a plan file: its bytes, its numbers of two bytes, the fields of a record.
 ghost use mathlib.Core.Path.{_≡_};
 ghost use Prim.Native.Nat.{_+_, _*_, _≤_, _<_};
-ghost use lib.ListN.{length};
+ghost use lib.ListN.{length, getD};
 ghost use Rattle.reading.specs.Bytes.{byte-at, u16-at, entry-at, bodies-at, fields-at, first-arm, second-arm};
+ghost use Rattle.reading.specs.Inner.Cells.{from-of, to-of};
 
 // A record's eight bytes.
 pub struct Fields {
@@ -21,14 +22,6 @@ pub fn byte(s: &[u8], at: usize) -> u8
     if at < s.len() { s[at] } else { 0 }
 }
 
-// The number of two bytes at a place, the low byte first.
-pub fn u16_at(s: &[u8], at: usize) -> u16
-    requires { ⌜ at < 65536 ⌝ }
-    ensures { λ r. ⌜ r ≡ u16-at (now (s .entry)) at ⌝ }
-{
-    (byte(s, at) as u16) + (byte(s, at + 1) as u16) * 256
-}
-
 // Where the entry of a body stands in the contents; the bodies begin where the entry after the last would.
 pub fn entry_at(plan: &[u8], body: usize) -> usize
     requires { ⌜ body < 256 ⌝ }
@@ -36,23 +29,6 @@ pub fn entry_at(plan: &[u8], body: usize) -> usize
     ensures low { λ r. ⌜ r < 2048 ⌝ }
 {
     4 + 2 * (byte(plan, 1) as usize) + 4 * body
-}
-
-// The fields of record r.
-pub fn fields_at(plan: &[u8], r: usize) -> Fields
-    requires { ⌜ r < 1024 ⌝ }
-    ensures { λ x. ⌜ x ≡ fields-at (now (plan .entry)) r ⌝ }
-{
-    let bodies = byte(plan, 2) as usize;
-    let at = entry_at(plan, bodies) + 8 * r;
-    Fields {
-        kind: byte(plan, at),
-        side: byte(plan, at + 1),
-        array: byte(plan, at + 2),
-        zero: byte(plan, at + 3),
-        p: u16_at(plan, at + 4),
-        q: u16_at(plan, at + 6),
-    }
 }
 
 // A byte as a number of two bytes.
@@ -63,7 +39,7 @@ fn wide(b: u8) -> u16
 }
 
 // The number of two bytes at a place inside the plan, the low byte first.
-fn number_at(plan: &[u8], at: usize) -> u16
+pub fn number_at(plan: &[u8], at: usize) -> u16
     requires { ⌜ at + 2 ≤ length (now plan) ⌝ }
     ensures { λ r. ⌜ r ≡ u16-at (now (plan .entry)) at ⌝ }
 {
@@ -104,4 +80,39 @@ pub fn second_arm(x: Fields) -> usize
     ensures low { λ r. ⌜ r < 65536 ⌝ }
 {
     if x.kind == 6 { x.q as usize } else { 0 }
+}
+
+// The cells of a record: the first, and the one after the last.
+pub struct Span {
+    pub from: usize,
+    pub to: usize,
+}
+
+// A number of two bytes as a place.
+fn place(n: u16) -> usize
+    ensures { λ r. ⌜ (r ≡ n) × (r < 65536) ⌝ }
+{
+    n as usize
+}
+
+// Which cells a record with the fields x covers: those from P up to Q of its array for kinds 1 to 3, else the whole array. `starts` has the first cell
+// of each array, and after the last array the number of cells.
+pub fn cells_of(x: Fields, starts: &[u16; 33]) -> Span
+    requires { ⌜ x .array < 32 ⌝ }
+    ensures from { λ s. ⌜ s .from ≡ from-of x (getD (now (starts .entry)) (x .array) 0) ⌝ }
+    ensures to { λ s. ⌜ s .to ≡ to-of x (getD (now (starts .entry)) (x .array) 0) (getD (now (starts .entry)) (x .array + 1) 0) ⌝ }
+{
+    let a = x.array as usize;
+    let first = place(starts[a]);
+    let next = place(starts[a + 1]);
+    if x.kind <= 3 {
+        return Span {
+            from: first + place(x.p),
+            to: first + place(x.q),
+        };
+    }
+    Span {
+        from: first,
+        to: next,
+    }
 }

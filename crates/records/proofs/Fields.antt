@@ -1,11 +1,12 @@
 -- Number 8: the rule of the fields, kind by kind.
 use mathlib.Core.Path.{_≡_}
-use mathlib.Core.Bool.{true, false, _&&_}
+use mathlib.Core.Bool.{true, false, _&&_, and-false}
 use mathlib.Core.List.{List}
-use Prim.Native.Nat.{ℕ, _≤_}
+use Prim.Native.Nat.{ℕ, _≤_, _<_}
+use native.Mathlib.Decide.{decLt}
 use native.Mathlib.Omega.{arith}
 use lib.Dec.{ltb, leb, eqb}
-use borrow.Author.Tests.{eq-eqb, ne-eqb}
+use borrow.Author.Tests.{eq-eqb, ne-eqb, le-ltb}
 use Rattle.reading.specs.declared.Fields.{Fields}
 use Rattle.reading.specs.Bytes.{array-count, body-count, length-at, between}
 use Rattle.records.specs.Records.{fields-fit}
@@ -21,6 +22,13 @@ module _ (f : List ℕ) (x : Fields) (n m s : ℕ) (z : Sizes f x n m s) where
   pub fit-cells : 1 ≤ x .kind → x .kind ≤ 3 → (ltb (x .side) 2 && ltb (x .array) n && eqb (x .zero) 0 && ltb (x .p) (x .q) && leb (x .q) s) ≡ fields-fit f x
   unfolding fields-fit
   fit-cells h k = simp (in-range 1 3 (x .kind) h k) (rw (z .arrays-are, z .size-is))
+
+  -- the length of the array read only where the array is one
+  pub fit-cells-read : (size : ℕ) → (x .array < array-count f → size ≡ length-at f (x .array)) → 1 ≤ x .kind → x .kind ≤ 3 → (ltb (x .side) 2 && ltb (x .array) n && eqb (x .zero) 0 && ltb (x .p) (x .q) && leb (x .q) size) ≡ fields-fit f x
+  fit-cells-read size read h k = elim (decLt (x .array) (array-count f)) [
+    | yes l ↦ rw (read l, ← z .size-is) (fit-cells h k)
+    | no l ↦ rw (← fit-cells h k, z .arrays-are, le-ltb (x .array) (array-count f) (omega arith), and-false (ltb (x .side) 2))
+  ]
 
   pub fit-array : 4 ≤ x .kind → x .kind ≤ 5 → (ltb (x .side) 2 && ltb (x .array) n && eqb (x .zero) 0 && eqb (x .p) 0 && eqb (x .q) 0) ≡ fields-fit f x
   unfolding fields-fit

@@ -3,19 +3,21 @@ use mathlib.Core.Path.{_≡_, refl, sym, _∙_}
 use mathlib.Core.Bool.{Bool, true, false, not, _&&_, _||_}
 use mathlib.Core.List.{List}
 use Prim.Native.Nat.{ℕ, zero, suc, _+_, _≤_, _<_}
-use native.Mathlib.Numerals.{add-one}
 use native.Mathlib.Omega.{arith}
 use lib.Dec.{ltb, leb}
+use lib.ListN.{getD}
 use borrow.Author.Tests.{lt-ltb, le-ltb, ltb-false, not-false}
 use Rattle.model.proofs.Booleans.{or-none}
 use Rattle.model.specs.declared.Verdict.{Verdict}
 use Rattle.model.specs.declared.Verdict.the-variants.{Accepted, Refused}
 use Rattle.reading.specs.declared.Fields.{Fields}
 use Rattle.model.specs.Rows.{first}
-use Rattle.reading.specs.Bytes.{body-count, records-in, sizes-of, first-record, record-count, fields-at, between, first-arm, second-arm}
+use Rattle.reading.specs.Bytes.{body-count, records-in, fields-at, between, first-arm, second-arm}
 use Rattle.records.specs.Records.{fields-fit, allowed, deepest, record-rows, block-rows, records-rows}
 use Rattle.model.proofs.Rows.{holds, skips, skipped, empty, stop, pass}
-use Rattle.reading.proofs.Tables.{first-rises, next-record}
+use Rattle.reading.proofs.Tables.{next-record}
+use Rattle.contents.specs.declared.Opened.{Opened}
+use Rattle.contents.proofs.Found.{BodyAt}
 
 -- the three tests of record r, which has the fields x
 module _ (f : List ℕ) (b depth end r : ℕ) (x : Fields) (ex : x ≡ fields-at f r) (v : Bool) (ev : v ≡ fields-fit f x) where
@@ -113,19 +115,7 @@ module _ (f : List ℕ) (b depth r end i j : ℕ) (p : Passes f b depth r end i 
       let lg : end ≤ r + 1 + i + j + fuel = omega (arith, inside) in
       rw (lt-ltb _ _ (p .less)) (pass _ _ v (p .accepts) (pass _ _ v (rw second-is at (a fuel le)) (pass _ _ v (rw (next-is, second-is) at (c fuel lf)) (rw next-is at (n fuel lg)))))
 
--- body b with its n records, after so many others
-pub record BodyAt (f : List ℕ) (b from n : ℕ) : Type 0 where
-  pub one : b < body-count f
-  pub size : n ≡ records-in f b
-  pub before : from ≡ first-record f b
-
-module _ (f : List ℕ) (b from n : ℕ) (x : BodyAt f b from n) where
-  pub next-body : from + n ≡ first-record f (b + 1)
-  next-body = rw (add-one, next-record f b (x .one), ← x .before, ← x .size)
-
-  pub body-limit : from + n ≤ record-count f
-  body-limit = rw next-body (first-rises (sizes-of f) (b + 1) (body-count f) (omega (arith, x .one)))
-
-  pub body-records : (v : Verdict) → Answers f b 0 from (from + n) v → v ≡ first (records-rows f b)
-  unfolding records-rows
-  body-records v a = rw (next-record f b (x .one), ← x .before, ← x .size) (a n (omega arith))
+-- the records of body b
+pub body-records : (f : List ℕ) (o : Opened) (b : ℕ) → b < body-count f → BodyAt f o b → (v : Verdict) → Answers f b 0 (getD (o .«body_starts») b 0) (getD (o .«body_starts») (b + 1) 0) v → v ≡ first (records-rows f b)
+unfolding records-rows
+body-records f o b h x v a = rw (next-record f b h, ← x .end-is, ← x .from-is) (a (records-in f b) (omega (arith, x .end-is, x .from-is)))

@@ -1,25 +1,42 @@
 // Numbers 8 to 10: the records.
 ghost use mathlib.Core.Path.{_≡_};
 ghost use Prim.Native.Nat.{ℕ, _+_, _≤_, _<_};
+ghost use lib.ListN.{length};
+ghost use Rattle.model.specs.declared.Verdict.the-variants.{Accepted};
 ghost use Rattle.model.specs.Rows.{first, each};
-ghost use Rattle.reading.specs.Bytes.{body-count, declarations-in, first-record, record-count, fields-at};
+ghost use Rattle.reading.specs.Bytes.{array-count, body-count, length-at, declarations-in, first-record, bodies-at, fields-at};
+ghost use Rattle.reading.specs.Inner.Places.{Inside};
+ghost use Rattle.contents.specs.Contents.{front-rows};
+ghost use Rattle.contents.specs.Found.{found};
 ghost use Rattle.records.specs.Records.{fields-fit, allowed, deepest, record-rows, block-rows, records-rows};
+use contents::Opened;
 use model::Verdict;
 use reading::Fields;
 use reading::byte;
-use reading::entry_at;
-use reading::fields_at;
 use reading::first_arm;
+use reading::number_at;
+use reading::record_at;
 use reading::second_arm;
-use reading::u16_at;
+
+// The length of an array, zero for a number that no array has.
+fn array_size(plan: &[u8], arrays: u8, a: u8) -> u16
+    requires { ⌜ (arrays ≡ array-count (now plan)) × (bodies-at (now plan) ≤ length (now plan)) ⌝ }
+    ensures { λ r. ⌜ (a < array-count (now (plan .entry)) → r ≡ length-at (now (plan .entry)) a) ⌝ }
+{
+    if a < arrays {
+        return number_at(plan, 4 + 2 * (a as usize));
+    }
+    0
+}
 
 // Number 8: whether each field keeps its rule.
 pub fn fields_fit(plan: &[u8], x: Fields) -> bool
+    requires { ⌜ bodies-at (now plan) ≤ length (now plan) ⌝ }
     ensures { λ r. ⌜ r ≡ fields-fit (now (plan .entry)) x ⌝ }
 {
     let arrays = byte(plan, 1);
     let bodies = byte(plan, 2);
-    let size = u16_at(plan, 4 + 2 * (x.array as usize));
+    let size = array_size(plan, arrays, x.array);
     let on_side = x.side < 2;
     let on_array = x.array < arrays;
     let no_array = (x.side == 0) & (x.array == 0);
@@ -70,7 +87,7 @@ pub fn record_tests(
     r: usize,
     x: Fields,
 ) -> Verdict
-    requires { ⌜ (r < 1024) × (x ≡ fields-at (now plan) r) × (until ≡ first-record (now plan) body + declarations-in (now plan) body) ⌝ }
+    requires { ⌜ (bodies-at (now plan) ≤ length (now plan)) × (r < 1024) × (x ≡ fields-at (now plan) r) × (until ≡ first-record (now plan) body + declarations-in (now plan) body) ⌝ }
     ensures { λ v. ⌜ v ≡ first (record-rows (now (plan .entry)) body depth end r) ⌝ }
 {
     let place = r as u16;
@@ -92,18 +109,19 @@ pub fn record_tests(
 // The records from `from` up to `end`, inside `depth` branches and loops.
 pub fn block(
     plan: &[u8],
+    bodies: usize,
     body: usize,
     until: usize,
     depth: usize,
     from: usize,
     end: usize,
 ) -> Verdict
-    requires { ⌜ (depth ≤ from) × (from ≤ end) × (end ≤ 1024) × (until ≡ first-record (now plan) body + declarations-in (now plan) body) ⌝ }
+    requires { ⌜ (depth ≤ from) × (from ≤ end) × (end ≤ 1024) × Inside (now plan) bodies end × (until ≡ first-record (now plan) body + declarations-in (now plan) body) ⌝ }
     ensures { λ v. ⌜ ((fuel : ℕ) → end ≤ from + fuel → v ≡ first (block-rows fuel (now (plan .entry)) body depth from end)) ⌝ }
 {
     let mut r = from;
     while r < end {
-        let x = fields_at(plan, r);
+        let x = record_at(plan, bodies, r);
         let tested = record_tests(plan, body, until, depth, end, r, x);
         let Verdict::Accepted = tested else {
             return tested;
@@ -111,11 +129,11 @@ pub fn block(
         let second = r + 1 + first_arm(x);
         let next = second + second_arm(x);
         if r + 1 < next {
-            let one = block(plan, body, until, depth + 1, r + 1, second);
+            let one = block(plan, bodies, body, until, depth + 1, r + 1, second);
             let Verdict::Accepted = one else {
                 return one;
             };
-            let two = block(plan, body, until, depth + 1, second, next);
+            let two = block(plan, bodies, body, until, depth + 1, second, next);
             let Verdict::Accepted = two else {
                 return two;
             };
@@ -125,23 +143,24 @@ pub fn block(
     Verdict::Accepted
 }
 
-// Numbers 8 to 10 of every body.
-pub fn all_records(plan: &[u8]) -> Verdict
-    requires { ⌜ (record-count (now plan) ≤ 1024) × (body-count (now plan) ≤ 32) ⌝ }
+// Numbers 8 to 10 of every body of a file in which none of 1 to 7 holds and o was found.
+pub fn all_records(plan: &[u8], o: Opened) -> Verdict
+    requires { ⌜ (Accepted ≡ first (front-rows (now plan))) × (o ≡ found (now plan)) ⌝ }
     ensures { λ r. ⌜ r ≡ first (each (body-count (now (plan .entry))) (records-rows (now (plan .entry)))) ⌝ }
 {
-    let bodies = byte(plan, 2) as usize;
-    let mut from: usize = 0;
+    let offset = o.offset as usize;
+    let bodies = o.bodies as usize;
+    let starts = o.body_starts;
+    let declarations = o.declarations;
     let mut b: usize = 0;
     while b < bodies {
-        let at = entry_at(plan, b);
-        let end = from + (u16_at(plan, at) as usize);
-        let until = from + (byte(plan, at + 2) as usize);
-        let v = block(plan, b, until, 0, from, end);
+        let from = starts[b] as usize;
+        let end = starts[b + 1] as usize;
+        let until = from + (declarations[b] as usize);
+        let v = block(plan, offset, b, until, 0, from, end);
         let Verdict::Accepted = v else {
             return v;
         };
-        from = end;
         b += 1;
     }
     Verdict::Accepted

@@ -11,13 +11,17 @@ use lib.ListN.{getD}
 use borrow.Author.Tests.{eq-eqb, ne-eqb}
 use Rattle.model.specs.Blocks.{size}
 use Rattle.reading.specs.declared.Fields.{Fields}
-use Rattle.reading.specs.Bytes.{kind-of, body-count, records-in, sizes-of, first-record, fields-at}
+use Rattle.reading.specs.Bytes.{kind-of, body-count, records-in, sizes-of, first-record, record-count, bodies-at, fields-at}
+use Rattle.reading.specs.Inner.Places.{Inside}
+use Rattle.contents.specs.declared.Opened.{Opened}
+use Rattle.contents.specs.Found.{found}
+use Rattle.contents.proofs.Found.{body-start}
 use Rattle.records.specs.Records.{allowed}
 use Rattle.reading.proofs.Ranges.{of-range}
 use Rattle.reading.proofs.Tables.{first-zero, first-rises, next-record}
 use Rattle.format.proofs.Walking.{Facts, opened-facts}
 use Rattle.format.proofs.Trees.{body0-good}
-use Rattle.sizes.specs.Inner.Sizes.{DeclaredFile, called, record-size, place, BodyStarts, PassSizes}
+use Rattle.sizes.specs.Inner.Sizes.{DeclaredFile, called, record-size, place, PassSizes}
 use Rattle.sizes.proofs.Fields.{call-body}
 use Rattle.sizes.proofs.Walks.{Tested, good-tested}
 use Rattle.sizes.proofs.Passes.{called-low}
@@ -68,8 +72,8 @@ module _ (f : List ℕ) (file : DeclaredFile f) where
   body0-ends : first-record f 1 ≡ end
   body0-ends = next-record f 0 (omega (arith, w .bounds .header .bodies)) ∙ rw (first-zero (sizes-of f)) (zero-add end)
 
-  pub end-read : (starts : List ℕ) → BodyStarts f starts → getD starts 1 0 ≡ end
-  end-read starts s = s .each 1 (w .bounds .header .bodies .0) ∙ body0-ends
+  pub end-read : (o : Opened) → o ≡ found f → getD (o .«body_starts») 1 0 ≡ end
+  end-read o e = body-start f o e (w .bounds) 1 (w .bounds .header .bodies .0) ∙ body0-ends
 
   pub body0-kind : (r : ℕ) → allowed f 0 r (fields-at f r) ≡ true → (6 ≤ fields-at f r .kind) × (fields-at f r .kind ≤ 8)
   unfolding allowed
@@ -82,8 +86,14 @@ module _ (f : List ℕ) (file : DeclaredFile f) where
   pub body0-called : (r : ℕ) → r < end → fields-at f r .kind ≡ 8 → (1 ≤ fields-at f r .p) × (fields-at f r .p < body-count f)
   body0-called r h e = call-body f (fields-at f r) (body0-tested r h .fits) e
 
+  body0-within : end ≤ record-count f
+  body0-within = omega (arith, next-record f 0 (omega (arith, w .bounds .header .bodies)), first-rises (sizes-of f) 1 (body-count f) (w .bounds .header .bodies .0))
+
   pub body0-few : end ≤ 1024
-  body0-few = omega (arith, w .bounds .records, next-record f 0 (omega (arith, w .bounds .header .bodies)), first-rises (sizes-of f) 1 (body-count f) (w .bounds .header .bodies .0))
+  body0-few = omega (arith, w .bounds .records, body0-within)
+
+  pub body0-inside : (bodies : ℕ) → bodies ≡ bodies-at f → Inside f bodies end
+  body0-inside bodies e = record { place = e; room = omega (arith, w .bounds .long, body0-within) }
 
   -- the size of a call that was read
   pub size-read : (r : ℕ) (x : Fields) (sizes : List ℕ) → r < end → x ≡ fields-at f r → x .kind ≡ 8 → PassSizes f sizes → (x .p < 32) × (getD sizes (x .p) 0 ≡ record-size f r)

@@ -7,13 +7,16 @@ use native.Nat.{ℕᴺ-discrete}
 use native.Mathlib.Numerals.{add-one}
 use native.Mathlib.Omega.{arith}
 use lib.Dec.{eqb}
-use lib.ListN.{length, getD, length-append}
+use lib.ListN.{length, length-append}
 use borrow.Author.Tests.{ne-eqb}
 use Rattle.model.specs.Blocks.{Block, size}
 use Rattle.model.specs.Judging.{R, W, RW}
 use Rattle.model.specs.Expanding.{given}
 use Rattle.reading.specs.declared.Fields.{Fields}
-use Rattle.reading.specs.Bytes.{kind-of, body-count, table, records-in, declarations-in, sizes-of, first-record, record-count, bodies-at, fields-at, first-arm, second-arm}
+use Rattle.reading.specs.Bytes.{kind-of, body-count, table, records-in, declarations-in, sizes-of, first-record, fields-at, first-arm, second-arm}
+use Rattle.contents.specs.declared.Opened.{Opened}
+use Rattle.contents.specs.Found.{found}
+use Rattle.contents.proofs.Found.{BodyAt, body-at}
 use Rattle.format.specs.Plans.{side-of, declaration-of, pass-at}
 use Rattle.files.specs.Files.{block-fields}
 use Rattle.format.specs.Inner.Walks.{block-between}
@@ -21,7 +24,7 @@ use Rattle.reading.proofs.Tables.{length-table, next-record, first-rises}
 use Rattle.format.proofs.Walking.{Facts, opened-facts, good-parts}
 use Rattle.format.proofs.Trees.{block-none, block-branch, block-loop, block-act, walk-of, no-arms, pass-kind, pass-good, pass-body}
 use Rattle.files.proofs.Files.Records.{fields-count}
-use Rattle.sizes.specs.Inner.Sizes.{DeclaredFile, given-by, declared-from, called, BodyStarts}
+use Rattle.sizes.specs.Inner.Sizes.{DeclaredFile, given-by, declared-from, called}
 use Rattle.sizes.proofs.Blocks.{same-size, declared-fields, declared-next}
 use Rattle.sizes.proofs.Fields.{action-again, nested-again}
 use Rattle.sizes.proofs.Walks.{second, next, branch-fields, loop-fields, Made, made-between}
@@ -81,16 +84,6 @@ module _ (f : List ℕ) (r : ℕ) where
   declared-low zero = omega (arith, same-size (declared-from f r 0) _ declared-none)
   declared-low (suc n) = omega (arith, declared-low n, declared-suc n, given-low (fields-at f (r + n)))
 
--- where the records of body b stand, as the table of first records says
-pub record Spans (f : List ℕ) (b : ℕ) (starts : List ℕ) : Type 0 where
-  pub from-is : getD starts b 0 ≡ first-record f b
-  pub end-is : getD starts (b + 1) 0 ≡ first-record f b + records-in f b
-  pub declared : declarations-in f b ≤ records-in f b
-  pub within : first-record f b + records-in f b ≤ record-count f
-  pub few : record-count f ≤ 1024
-  pub bodies : body-count f ≤ 32
-  pub long : length f ≡ bodies-at f + 8 * record-count f + 2
-
 -- a pass of a file that opens
 module _ (f : List ℕ) (file : DeclaredFile f) (b : ℕ) (p : 1 ≤ b) (l : b < body-count f) where
   abbrev w : Facts f
@@ -105,16 +98,9 @@ module _ (f : List ℕ) (file : DeclaredFile f) (b : ℕ) (p : 1 ≤ b) (l : b <
   abbrev end : ℕ
   end = first-record f b + records-in f b
 
-  pub spans : (starts : List ℕ) → BodyStarts f starts → Spans f b starts
-  spans starts s = record {
-    from-is = s .each b (omega arith);
-    end-is = s .each (b + 1) (omega arith) ∙ rw add-one (next-record f b l);
-    declared = w .bounds .declared b l;
-    within = omega (arith, next-record f b l, first-rises (sizes-of f) (suc b) (body-count f) l);
-    few = w .bounds .records;
-    bodies = w .bounds .header .bodies .1;
-    long = w .bounds .long;
-  }
+  -- where it stands, by what opening found
+  pub stands : (o : Opened) → o ≡ found f → BodyAt f o b
+  stands o e = body-at f o e (w .bounds) b l
 
   pass-made : Made f b until (table (fields-at f)) (block-between f)
   unfolding table second-arm

@@ -80,7 +80,7 @@ module _ (f : List ℕ) (file : DeclaredFile f) where
       (omega (arith, c .0), omega (arith, c .1), rw n (record-call f r t), rw n (piece-call f r t))
 
   -- a branch or a loop that was read, with its arms, and its places
-  pub nested-read : (r : ℕ) (x : Fields) (one two : ℕ) (places : List ℕ) → r < end → x ≡ fields-at f r → (x .kind ≡ 8 → ⊥) → one ≡ first-arm x → two ≡ second-arm x → Places f end places → Nested f end r x one two places
+  pub nested-read : (r : ℕ) (x : Fields) (one two : ℕ) (places : List ℕ) → r < end → x ≡ fields-at f r → (x .kind ≡ 8 → ⊥) → one ≡ first-arm x → two ≡ second-arm x → Places f places → Nested f end r x one two places
   nested-read r x one two places h e z a b t =
       let a′ : one ≡ first-arm (fields-at f r) = a ∙ ap first-arm e in
       let b′ : two ≡ second-arm (fields-at f r) = b ∙ ap second-arm e in

@@ -5,17 +5,17 @@ ghost use Prim.Native.Nat.{_+_, _*_, _≤_, _<_};
 ghost use lib.ListN.{length, take};
 ghost use Rattle.model.specs.Blocks.{size};
 ghost use Rattle.reading.specs.Bytes.{body-count, records-in};
+ghost use Rattle.reading.specs.Inner.Places.{Inside};
+ghost use Rattle.contents.specs.Found.{found};
 ghost use Rattle.sums.specs.Sums.{check-bytes};
 ghost use Rattle.files.specs.Files.{record-bytes, u16-bytes, fields, block-fields};
-ghost use Rattle.sizes.specs.Inner.Sizes.{DeclaredFile, given-by, declared-from, called, record-size, place, BodyStarts, Places};
+ghost use Rattle.sizes.specs.Inner.Sizes.{DeclaredFile, given-by, declared-from, called, record-size, place, Places};
 ghost use Rattle.writer.specs.Inner.Pieces.{DeclarationsAt, over, bytes-of, piece, pieces};
+use contents::Opened;
 use reading::Fields;
-use reading::byte;
-use reading::entry_at;
-use reading::fields_at;
 use reading::first_arm;
+use reading::record_at;
 use reading::second_arm;
-use sizes::declarations_in;
 use sums::check_sums;
 
 // A record.
@@ -74,15 +74,21 @@ pub fn put_declaration(out: &mut [u8], x: Fields) -> usize
 }
 
 // What the declarations from record `from` on give, so many of them; the answer is how many records that is.
-pub fn put_declarations(plan: &[u8], out: &mut [u8], from: usize, count: usize) -> usize
-    requires { ⌜ DeclarationsAt (now plan) from count × (8 * size (declared-from (now plan) from count) ≤ length (now out)) ⌝ }
+pub fn put_declarations(
+    plan: &[u8],
+    bodies: usize,
+    out: &mut [u8],
+    from: usize,
+    count: usize,
+) -> usize
+    requires { ⌜ DeclarationsAt (now plan) from count × Inside (now plan) bodies (from + count) × (8 * size (declared-from (now plan) from count) ≤ length (now out)) ⌝ }
     ensures size { λ r. ⌜ r ≡ size (declared-from (now (plan .entry)) from count) ⌝ }
     ensures bytes { λ _. ⌜ now (out .exit) ≡ over (bytes-of (block-fields (declared-from (now (plan .entry)) from count))) (now (out .entry)) ⌝ }
 {
     let mut n: usize = 0;
     let mut i: usize = 0;
     while i < count {
-        let x = fields_at(plan, from + i);
+        let x = record_at(plan, bodies, from + i);
         let at = 8 * n;
         n += put_declaration(&mut out[at..], x);
         i += 1;
@@ -103,37 +109,31 @@ pub fn put_bytes(out: &mut [u8], bytes: &[u8])
 }
 
 // What stands for a call of body b: what its declarations give, and its other records byte for byte.
-pub fn put_call(plan: &[u8], starts: &[u16; 33], out: &mut [u8], b: usize)
-    requires { ⌜ DeclaredFile (now plan) × BodyStarts (now plan) (now starts) × (1 ≤ b) × (b < body-count (now plan)) × (8 * size (called (now plan) b) ≤ length (now out)) ⌝ }
+pub fn put_call(plan: &[u8], o: Opened, out: &mut [u8], b: usize)
+    requires { ⌜ DeclaredFile (now plan) × (o ≡ found (now plan)) × (1 ≤ b) × (b < body-count (now plan)) × (8 * size (called (now plan) b) ≤ length (now out)) ⌝ }
     ensures { λ _. ⌜ now (out .exit) ≡ over (bytes-of (block-fields (called (now (plan .entry)) b))) (now (out .entry)) ⌝ }
 {
+    let bodies = o.offset as usize;
+    let starts = o.body_starts;
+    let declarations = o.declarations;
     let from = starts[b] as usize;
     let end = starts[b + 1] as usize;
-    let count = declarations_in(plan, b);
-    let made = put_declarations(plan, out, from, count);
+    let count = declarations[b] as usize;
+    let made = put_declarations(plan, bodies, out, from, count);
     let at = 8 * made;
-    let bodies = byte(plan, 2) as usize;
-    let offset = entry_at(plan, bodies);
-    let first = offset + 8 * (from + count);
-    let last = offset + 8 * end;
+    let first = bodies + 8 * (from + count);
+    let last = bodies + 8 * end;
     put_bytes(&mut out[at..], &plan[first..last]);
 }
 
 // What stands for record r of body 0: a call's records, or a branch or a loop with its arm counts grown to fit.
-pub fn put_piece(
-    plan: &[u8],
-    starts: &[u16; 33],
-    places: &[u32; 1025],
-    out: &mut [u8],
-    end: usize,
-    r: usize,
-)
-    requires { ⌜ DeclaredFile (now plan) × BodyStarts (now plan) (now starts) × Places (now plan) end (now places) × (end ≡ records-in (now plan) 0) × (r < end) × (place (now plan) end ≤ 1024) × (8 * record-size (now plan) r ≤ length (now out)) ⌝ }
+pub fn put_piece(plan: &[u8], o: Opened, places: &[u32; 1025], out: &mut [u8], r: usize)
+    requires { ⌜ DeclaredFile (now plan) × (o ≡ found (now plan)) × Places (now plan) (now places) × (r < records-in (now plan) 0) × (place (now plan) (records-in (now plan) 0) ≤ 1024) × (8 * record-size (now plan) r ≤ length (now out)) ⌝ }
     ensures { λ _. ⌜ now (out .exit) ≡ over (bytes-of (piece (now (plan .entry)) r)) (now (out .entry)) ⌝ }
 {
-    let x = fields_at(plan, r);
+    let x = record_at(plan, o.offset as usize, r);
     if x.kind == 8 {
-        put_call(plan, starts, out, x.p as usize);
+        put_call(plan, o, out, x.p as usize);
         return;
     }
     let second = r + 1 + first_arm(x);
@@ -154,14 +154,14 @@ pub fn put_piece(
 }
 
 // All records of the expansion.
-pub fn put_body(plan: &[u8], starts: &[u16; 33], places: &[u32; 1025], out: &mut [u8], end: usize)
-    requires { ⌜ DeclaredFile (now plan) × BodyStarts (now plan) (now starts) × Places (now plan) end (now places) × (end ≡ records-in (now plan) 0) × (place (now plan) end ≤ 1024) × (8 * place (now plan) end ≤ length (now out)) ⌝ }
+pub fn put_body(plan: &[u8], o: Opened, places: &[u32; 1025], out: &mut [u8], end: usize)
+    requires { ⌜ DeclaredFile (now plan) × (o ≡ found (now plan)) × Places (now plan) (now places) × (end ≡ records-in (now plan) 0) × (place (now plan) end ≤ 1024) × (8 * place (now plan) end ≤ length (now out)) ⌝ }
     ensures { λ _. ⌜ now (out .exit) ≡ over (bytes-of (pieces (now (plan .entry)) end)) (now (out .entry)) ⌝ }
 {
     let mut r: usize = 0;
     while r < end {
         let at = 8 * (places[r] as usize);
-        put_piece(plan, starts, places, &mut out[at..], end, r);
+        put_piece(plan, o, places, &mut out[at..], r);
         r += 1;
     }
 }

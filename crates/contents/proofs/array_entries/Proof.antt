@@ -9,7 +9,7 @@ use lib.ListN.{length}
 use Rattle.model.specs.declared.Verdict.the-variants.{Accepted}
 use Rattle.model.specs.Sides.{first-of}
 use Rattle.model.specs.Rows.{first, each}
-use Rattle.reading.specs.Bytes.{array-count, table, length-at, arrays-of}
+use Rattle.reading.specs.Bytes.{array-count, table, length-at, arrays-of, entry-at}
 use Rattle.contents.specs.Contents.{array-rows}
 use Rattle.model.proofs.Rows.{refused, each-none, each-more, each-stop}
 use Rattle.reading.proofs.Tables.{filled-first, filled-next, first-zero, all-cells}
@@ -31,9 +31,9 @@ abbrev μ-loop : tie.MeasureT-loop
 μ-loop plan arrays starts₀ cells₀ a₀ starts cells a = arrays - a
 
 -- what was read at array a
-entry : (c : tie.After-u16-at Inv-loop μ-loop) → ArrayEntry (c .before .before .before .before .before .args .plan .now) (c .before .before .loop .a) (c .u16-at .result) (c .before .before .loop .cells)
+entry : (c : tie.After-number-at Inv-loop μ-loop) → ArrayEntry (c .before .before .before .before .before .args .plan .now) (c .before .before .loop .a) (c .number-at .result) (c .before .before .loop .cells)
 unfolding length-at
-entry c = record { one = omega (arith, c .before .before .before .byte .ensures); size = c .u16-at .ensures; before = c .before .before .loop .inv .1 }
+entry c = record { one = omega (arith, c .before .before .before .byte .ensures); size = c .number-at .ensures; before = c .before .before .loop .inv .1 }
 
 byte-requires : tie.Need-byte-requires Inv-loop μ-loop
 byte-requires c κs = search needs
@@ -47,14 +47,15 @@ loop-holds c =
     let l = arrays-of (c .before .before .args .plan .now) in
     (search needs, sym (first-zero l), search needs, each-none _, search needs, filled-first (first-of l) (first-zero l))
 
-mul-u16-at : tie.Need-mul-u16-at Inv-loop μ-loop
-mul-u16-at c = search needs
+mul-number-at : tie.Need-mul-number-at Inv-loop μ-loop
+mul-number-at c = search needs
 
-add-u16-at : tie.Need-add-u16-at Inv-loop μ-loop
-add-u16-at c = search needs
+add-number-at : tie.Need-add-number-at Inv-loop μ-loop
+add-number-at c = search needs
 
-u16-at-requires : tie.Need-u16-at-requires Inv-loop μ-loop
-u16-at-requires c κs = search needs
+number-at-requires : tie.Need-number-at-requires Inv-loop μ-loop
+unfolding entry-at
+number-at-requires c κs = omega arith
 
 cast-total : tie.Need-cast-total Inv-loop μ-loop
 cast-total c = search needs
@@ -112,9 +113,9 @@ array-entries-spec =
     byte-requires
     cast-arrays
     loop-holds
-    mul-u16-at
-    add-u16-at
-    u16-at-requires
+    mul-number-at
+    add-number-at
+    number-at-requires
     cast-total
     add-total
     cast-t18

@@ -9,7 +9,7 @@ use lib.ListN.{length}
 use Rattle.model.specs.declared.Verdict.the-variants.{Accepted}
 use Rattle.model.specs.Sides.{first-of}
 use Rattle.model.specs.Rows.{first, each}
-use Rattle.reading.specs.Bytes.{byte-at, u16-at, body-count, table, declarations-in, sizes-of, first-record}
+use Rattle.reading.specs.Bytes.{byte-at, u16-at, body-count, table, entry-at, declarations-in, sizes-of, first-record}
 use Rattle.contents.specs.Contents.{body-rows}
 use Rattle.model.proofs.Rows.{refused, each-none, each-more, each-stop}
 use Rattle.reading.proofs.Tables.{filled-first, filled-next, stored-next, first-zero}
@@ -33,13 +33,13 @@ abbrev μ-loop : tie.MeasureT-loop
 μ-loop plan bodies starts₀ declarations₀ records₀ b₀ starts declarations records b = bodies - b
 
 -- what was read at body b
-entry : (c : tie.After-byte3 Inv-loop μ-loop) → BodyEntry (c .before .before .before .before .before .before .before .before .args .plan .now) (c .before .before .before .before .before .loop .b) (c .before .before .u16-at .result) (c .before .byte2 .result) (c .byte3 .result) (c .before .before .before .before .before .loop .records)
+entry : (c : tie.After-byte3 Inv-loop μ-loop) → BodyEntry (c .before .before .before .before .before .before .before .before .args .plan .now) (c .before .before .before .before .before .loop .b) (c .before .before .number-at .result) (c .before .byte2 .result) (c .byte3 .result) (c .before .before .before .before .before .loop .records)
 entry c =
     let f = c .before .before .before .before .before .before .before .before .args .plan .now in
     let at = c .before .before .before .entry-at .ensures .0 in
     record {
       one = omega (arith, c .before .before .before .before .before .before .byte .ensures);
-      size = c .before .before .u16-at .ensures ∙ ap (u16-at f) at;
+      size = c .before .before .number-at .ensures ∙ ap (u16-at f) at;
       declared = c .before .byte2 .ensures ∙ ap (λ (i : ℕ). byte-at f (i + 2)) at;
       ends = c .byte3 .ensures ∙ ap (λ (i : ℕ). byte-at f (i + 3)) at;
       before = c .before .before .before .before .before .loop .inv .1;
@@ -60,8 +60,9 @@ loop-holds c =
 entry-at-requires : tie.Need-entry-at-requires Inv-loop μ-loop
 entry-at-requires c κs = search needs
 
-u16-at-requires : tie.Need-u16-at-requires Inv-loop μ-loop
-u16-at-requires c κs = search needs
+number-at-requires : tie.Need-number-at-requires Inv-loop μ-loop
+unfolding entry-at
+number-at-requires c κs = omega arith
 
 add-byte : tie.Need-add-byte Inv-loop μ-loop
 add-byte c = search needs
@@ -147,7 +148,7 @@ body-entries-spec =
     cast-bodies
     loop-holds
     entry-at-requires
-    u16-at-requires
+    number-at-requires
     add-byte
     byte-requires-2
     add-byte-2

@@ -61,7 +61,7 @@ returns-2 : tie.Need-returns-2
 returns-2 c = nothing _ _ _ _ (refused refl) (c .nothing-found2 .ensures) (front-short _ (headed (c .before .before .before .before)) (rw (offset-is (c .before .before)) at (c .before .if1 .taken)))
 
 array-entries-requires : tie.Need-array-entries-requires
-array-entries-requires c κs = header-bounds _ (headed (c .before .before .before)) .arrays .1
+array-entries-requires c κs = (header-bounds _ (headed (c .before .before .before)) .arrays .1, within c)
 
 enum-told-2 : tie.Need-enum-told-2
 enum-told-2 c = search needs
@@ -73,7 +73,7 @@ returns-3 : tie.Need-returns-3
 returns-3 c = let nay = turned _ (c .before .match2 .keys2) in nothing _ _ _ _ nay (c .nothing-found3 .ensures) (front-arrays _ (headed (c .before .before .before .before .before .before)) (within (c .before .before .before)) _ nay (c .before .before .array-entries .ensures .0))
 
 body-entries-requires : tie.Need-body-entries-requires
-body-entries-requires c κs = header-bounds _ (headed (c .before .before .before .before .before .before)) .bodies .1
+body-entries-requires c κs = (header-bounds _ (headed (c .before .before .before .before .before .before)) .bodies .1, within (c .before .before .before))
 
 enum-told-3 : tie.Need-enum-told-3
 enum-told-3 c = search needs

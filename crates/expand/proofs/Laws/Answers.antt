@@ -1,5 +1,5 @@
 -- The expander's answers: the judge's, 16, 17, accepted; and what the output then is.
-use mathlib.Core.Path.{_≡_, refl, ap, _∙_}
+use mathlib.Core.Path.{_≡_, refl, ap, sym, _∙_}
 use mathlib.Core.List.{List}
 use Prim.Native.Nat.{ℕ, _<_, _≤_}
 use native.Mathlib.Omega.{arith}
@@ -8,7 +8,10 @@ use borrow.Author.Tests.{lt-ltb, le-ltb, eqb-true, not-false}
 use Rattle.model.specs.declared.Verdict.{Verdict}
 use Rattle.model.specs.declared.Verdict.the-variants.{Accepted, Stopped, Refused}
 use Rattle.model.specs.Blocks.{size}
-use Rattle.format.specs.Opening.{open-rows, opening}
+use Rattle.contents.specs.declared.Opened.{Opened}
+use Rattle.contents.specs.Found.{found}
+use Rattle.format.specs.Opening.{open-rows, opening, opened}
+use Rattle.format.proofs.Walking.{verdict-is, found-is}
 use Rattle.model.proofs.Rows.{holds, skips, skipped, empty, stop, pass, passed}
 use Rattle.judge.specs.Judged.{judge-rows, judged}
 use Rattle.expand.specs.Expanded.{expansion-of, expansion-file, expand-answer, written, expanded}
@@ -22,6 +25,9 @@ module _ (f : List ℕ) where
   accepted-file e =
       let p = passed (open-rows f) _ e in
       record { opened = p .0; kind = eqb-true _ _ (not-false _ (skipped _ _ _ _ (p .1) .0)) }
+
+  pub accepted-found : (o : Opened) → o ≡ opened f → Accepted ≡ judged f → o ≡ found f
+  accepted-found o e a = found-is f o e (verdict-is f o e ∙ sym (accepted-file a .opened))
 
   module _ (out : List ℕ) where
     -- a refusal leaves the output as it was

@@ -95,5 +95,5 @@ module _ (f : List ℕ) (file : DeclaredFile f) where
   pub expansion-size : size (expansion-of f .body) ≡ place f end
   expansion-size = same-size (expansion-of f .body) _ expansion-fields ∙ pieces-length f end
 
-  pub size-read-off : (last : ℕ) (places : List ℕ) → last ≡ end → Places f last places → getD places last 0 ≡ size (expansion-of f .body)
+  pub size-read-off : (last : ℕ) (places : List ℕ) → last ≡ end → Places f places → getD places last 0 ≡ size (expansion-of f .body)
   size-read-off last places e t = t .each last (omega arith) ∙ ap (place f) e ∙ sym expansion-size

@@ -10,14 +10,11 @@ use Rattle.expand.proofs.expansion_records.Statement.{statement}
 use Rattle.expand.proofs.expansion_records.Tie as tie
 
 -- where body 0 ends
-end : (c : tie.After-pass-sizes) → getD (c .before .before .body-starts .result) 1 0 ≡ records-in (c .before .before .before .before .args .plan .now) 0
-end c = end-read _ (c .before .before .before .before .pre) _ (c .before .before .body-starts .ensures)
+end : (c : tie.Start) → getD (c .args .o .«body_starts») 1 0 ≡ records-in (c .args .plan .now) 0
+end c = end-read _ (c .pre .0) _ (c .pre .1)
 
-body-starts-requires : tie.Need-body-starts-requires
-body-starts-requires c κs = search needs
-
-pass-sizes-requires : tie.Need-pass-sizes-requires
-pass-sizes-requires c κs = search needs
+places-requires : tie.Need-places-requires
+places-requires c κs = search needs
 
 array-read-end : tie.Need-array-read-end
 array-read-end c = search needs
@@ -25,27 +22,16 @@ array-read-end c = search needs
 cast-end : tie.Need-cast-end
 cast-end c = search needs
 
-places-requires : tie.Need-places-requires
-places-requires c κs = (c .before .before .before .before .before .pre, c .before .pass-sizes .ensures, end (c .before))
-
 mul-result : tie.Need-mul-result
-mul-result c = record { fits = omega (arith, end (c .before .before), body0-few _ (c .before .before .before .before .before .before .pre)) }
+mul-result c = record { fits = omega (arith, end (c .before .before .before), body0-few _ (c .before .before .before .pre .0)) }
 
 array-read-result : tie.Need-array-read-result
-array-read-result c = omega (arith, end (c .before .before), body0-few _ (c .before .before .before .before .before .before .pre))
+array-read-result c = omega (arith, end (c .before .before .before), body0-few _ (c .before .before .before .pre .0))
 
 returns : tie.Need-returns
-returns c = size-read-off _ (c .before .before .before .before .before .before .pre) _ _ (end (c .before .before)) (c .places .ensures)
+returns c = size-read-off _ (c .before .before .before .pre .0) _ _ (end (c .before .before .before)) (c .before .places .ensures)
 
 pub expansion-records-spec : {M : Type 1} → statement M
 expansion-records-spec =
     tie.close
-    (tie.spec
-    body-starts-requires
-    pass-sizes-requires
-    array-read-end
-    cast-end
-    places-requires
-    mul-result
-    array-read-result
-    returns)
+    (tie.spec places-requires array-read-end cast-end mul-result array-read-result returns)

@@ -8,7 +8,6 @@ use Rattle.contents.specs.Contents.{front-rows}
 use Rattle.model.proofs.Rows.{turned}
 use Rattle.format.proofs.Opening.{open-front, open-records}
 use Rattle.contents.proofs.Places.{nothing, answer}
-use Rattle.contents.proofs.Bounds.{bounds-of}
 use borrow.Author.Needs.{needs}
 use Rattle.format.proofs.open.Statement.{statement}
 use Rattle.format.proofs.open.Tie as tie
@@ -28,7 +27,7 @@ unfolding opened
 returns c = c .before .outline .ensures ∙ ap (found-by (c .before .before .before .args .plan .now)) (open-front _ _ (λ e. turned _ (c .match .keys2) (ap (λ o. o .verdict) (c .before .outline .ensures) ∙ answer _ _ ∙ e)) refl)
 
 all-records-requires : tie.Need-all-records-requires
-all-records-requires c κs = let w = bounds-of _ (front c) in (w .records, w .header .bodies .1)
+all-records-requires c κs = (front c, c .before .before .outline .ensures ∙ ap (found-by _) (sym (front c)))
 
 enum-told-2 : tie.Need-enum-told-2
 enum-told-2 c = search needs

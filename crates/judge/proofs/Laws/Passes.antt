@@ -3,7 +3,6 @@ use mathlib.Core.Path.{_≡_}
 use mathlib.Core.List.{List}
 use Prim.Native.Nat.{ℕ, zero, suc, _+_, _-_, _≤_, _<_}
 use native.Mathlib.Decide.{decLt}
-use native.Mathlib.Numerals.{add-one}
 use native.Mathlib.Omega.{arith}
 use lib.ListN.{getD}
 use borrow.Author.Tests.{eq-eqb, ne-eqb}
@@ -11,12 +10,12 @@ use Rattle.model.specs.declared.Verdict.{Verdict}
 use Rattle.model.specs.declared.Verdict.the-variants.{Accepted, Refused}
 use Rattle.contents.specs.declared.Opened.{Opened}
 use Rattle.model.specs.Rows.{Row, first, each}
-use Rattle.reading.specs.Bytes.{kind-of, body-count, records-in, declarations-in, first-record}
+use Rattle.reading.specs.Bytes.{kind-of, body-count, records-in, declarations-in}
 use Rattle.format.specs.Opening.{open-rows, opening}
 use Rattle.contents.specs.Found.{found}
 use Rattle.model.proofs.Rows.{holds, skips, stop, pass, each-more, each-stop}
-use Rattle.reading.proofs.Tables.{next-record}
-use Rattle.format.proofs.Walking.{opened-facts, body-start, declarations-at}
+use Rattle.contents.proofs.Found.{body-at}
+use Rattle.format.proofs.Walking.{opened-facts}
 use Rattle.judge.specs.declared.Extent.{Extent}
 use Rattle.judge.specs.Judged.{record-rows, w-rows, pass-rows, judge-rows, judged}
 use Rattle.judge.specs.Inner.Passes.{PassAt}
@@ -62,21 +61,19 @@ module _ (f : List ℕ) where
 
   -- what opening found of body b
   pub extent : (o : Opened) → o ≡ found f → Accepted ≡ opening f → kind-of f ≡ 1 → (b : ℕ) → 1 ≤ b → b < body-count f →
-      (getD (o .«body_starts») b 0 ≤ getD (o .«body_starts») (b + 1) 0) × PassAt f (record { body = b; from = getD (o .«body_starts») b 0; declarations = getD (o .declarations) b 0; records = getD (o .«body_starts») (b + 1) 0 - getD (o .«body_starts») b 0 })
+      (getD (o .«body_starts») b 0 ≤ getD (o .«body_starts») (b + 1) 0) × PassAt f (record { bodies = o .offset; body = b; from = getD (o .«body_starts») b 0; declarations = getD (o .declarations) b 0; records = getD (o .«body_starts») (b + 1) 0 - getD (o .«body_starts») b 0 })
   extent o e a k b l h =
-      let w = opened-facts f a .bounds in
-      let n : first-record f (b + 1) ≡ first-record f b + records-in f b = rw add-one (next-record f b h) in
-      let here = body-start f o e w b (omega arith) in
-      let next = body-start f o e w (b + 1) (omega arith) in (
-        omega arith,
+      let x = body-at f o e (opened-facts f a .bounds) b h in (
+        omega (arith, x .from-is, x .end-is),
         record {
           opens = a;
           declared = k;
+          place = x .inside .place;
           low = l;
           high = h;
-          from-is = here;
-          declarations-are = declarations-at f o e w b h;
-          records-are = rw (here, next) (omega arith);
+          from-is = x .from-is;
+          declarations-are = x .declarations-are;
+          records-are = omega (arith, x .from-is, x .end-is);
         },
       )
 

@@ -11,6 +11,7 @@ use borrow.Author.Tests.{ltb-true, eqb-true, le-ltb, ne-eqb}
 use Rattle.model.proofs.Booleans.{and-out}
 use Rattle.reading.specs.declared.Fields.{Fields}
 use Rattle.reading.specs.Bytes.{kind-of, array-count, body-count, length-at, declarations-in, sizes-of, first-record, fields-at, first-arm, second-arm}
+use Rattle.reading.specs.Inner.Places.{Inside}
 use Rattle.records.specs.Records.{fields-fit, allowed}
 use Rattle.format.specs.Inner.Walks.{Good, Walkable, block-between}
 use Rattle.format.specs.Plans.{pass-at}
@@ -91,6 +92,12 @@ module _ (f : List ℕ) (e : Extent) (p : PassAt f e) where
 
   pub records-low : e .from + e .records ≤ 1024
   records-low = rw (← pass-end) (omega (arith, first-rises (sizes-of f) (suc (e .body)) (body-count f) (p .high), facts .bounds .records))
+
+  pub records-inside : Inside f (e .bodies) (e .from + e .records)
+  records-inside = record {
+    place = p .place;
+    room = rw (← pass-end, p .place) (omega (arith, first-rises (sizes-of f) (suc (e .body)) (body-count f) (p .high), facts .bounds .long));
+  }
 
   tested : (i : ℕ) → i < e .records → (fields-fit f (fields-at f (e .from + i)) ≡ true) × (allowed f (e .body) (e .from + i) (fields-at f (e .from + i)) ≡ true)
   tested i h =

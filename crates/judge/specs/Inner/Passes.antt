@@ -7,7 +7,7 @@ use lib.Dec.{eqb}
 use Rattle.model.specs.declared.Verdict.the-variants.{Accepted}
 use Rattle.reading.specs.declared.Fields.{Fields}
 use Rattle.model.specs.Rows.{Row, row, first, each}
-use Rattle.reading.specs.Bytes.{kind-of, body-count, table, records-in, declarations-in, first-record, fields-at, between}
+use Rattle.reading.specs.Bytes.{kind-of, body-count, table, records-in, declarations-in, first-record, bodies-at, fields-at, between}
 use Rattle.format.specs.Opening.{opening}
 use Rattle.judge.specs.declared.Declared.{Declared}
 use Rattle.judge.specs.declared.Extent.{Extent}
@@ -17,6 +17,7 @@ use Rattle.judge.specs.Judged.{record-rows}
 pub record PassAt (f : List ℕ) (e : Extent) : Type 0 where
   pub opens : Accepted ≡ opening f
   pub declared : kind-of f ≡ 1
+  pub place : e .bodies ≡ bodies-at f
   pub low : 1 ≤ e .body
   pub high : e .body < body-count f
   pub from-is : e .from ≡ first-record f (e .body)

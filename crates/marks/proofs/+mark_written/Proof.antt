@@ -17,7 +17,7 @@ use borrow.Fn.PlainCycle.{Measures, is, falls, and}
 use Rattle.marks.proofs.mark_written.Reads as mark-written
 use Rattle.marks.proofs.mark_written.Kinds as mark-written-kinds
 use Rattle.marks.proofs.+mark_written.Lts-mark_written as mark-written-lts
-use Rattle.reading.proofs.fields_at.Reads as fields-at-reads
+use Rattle.reading.proofs.record_at.Reads as record-at-reads
 use Rattle.reading.proofs.first_arm.Reads as first-arm-reads
 use Rattle.reading.proofs.second_arm.Reads as second-arm-reads
 use Rattle.marks.proofs.mark_both.Reads as mark-both-reads
@@ -26,7 +26,7 @@ use Rattle.marks.proofs.+mark_written.{statement}
 use Rattle.marks.proofs.+mark_written.Tie.{close}
 
 abbrev μ-mark-written : Measures 4 mark-written-kinds.ps ℕ
-μ-mark-written κs a = a .1 .1 .1 .1 .1 .0 - a .1 .1 .1 .1 .0
+μ-mark-written κs a = a .1 .1 .1 .1 .1 .1 .0 - a .1 .1 .1 .1 .1 .0
 
 abbrev mark-written-at : ℕ → In 4 mark-written-kinds.ps
 mark-written-at t =
@@ -41,7 +41,7 @@ mark-written-below t =
     mark-written.Pre
 
 abbrev mark-written-Inv-loop : mark-written-lts.InvT-loop
-mark-written-Inv-loop plan starts sides set₀ r end at₀ set at =
+mark-written-Inv-loop plan bodies starts sides set₀ r end at₀ set at =
     (r ≤ at)
     × (at ≤ end)
     × (length set ≡ 4096)
@@ -49,18 +49,18 @@ mark-written-Inv-loop plan starts sides set₀ r end at₀ set at =
     × ((l : List Bool) → Adds set l (always plan sides at end) → Adds set₀ l (always plan sides r end))
 
 abbrev mark-written-μ-loop : mark-written-lts.MeasureT-loop
-mark-written-μ-loop plan starts sides set₀ r end at₀ set at = end - at
+mark-written-μ-loop plan bodies starts sides set₀ r end at₀ set at = end - at
 
 -- what each callee asks and gives, this one below t
 abbrev calls : ℕ → mark-written-lts.Claims
-calls t = (fields-at-reads.Asked, fields-at-reads.Learnt, first-arm-reads.Asked, first-arm-reads.Learnt, second-arm-reads.Asked, second-arm-reads.Learnt, mark-written-below t, mark-written.Post, mark-both-reads.Asked, mark-both-reads.Learnt, mark-record-reads.Asked, mark-record-reads.Learnt)
+calls t = (record-at-reads.Asked, record-at-reads.Learnt, first-arm-reads.Asked, first-arm-reads.Learnt, second-arm-reads.Asked, second-arm-reads.Learnt, mark-written-below t, mark-written.Post, mark-both-reads.Asked, mark-both-reads.Learnt, mark-record-reads.Asked, mark-record-reads.Learnt)
 
 -- record `at` of the block
-here : (t : ℕ) (c : mark-written-lts.After-second-arm (calls t) (mark-written-at t) mark-written.Post mark-written-Inv-loop mark-written-μ-loop) → RecordAt (c .before .before .before .before .before .before .args .plan .now) (c .before .before .before .before .loop .at) (c .before .before .before .before .before .before .args .end) (c .before .before .fields-at .result) (c .before .first-arm .result) (c .second-arm .result)
+here : (t : ℕ) (c : mark-written-lts.After-second-arm (calls t) (mark-written-at t) mark-written.Post mark-written-Inv-loop mark-written-μ-loop) → RecordAt (c .before .before .before .before .before .before .args .plan .now) (c .before .before .before .before .loop .at) (c .before .before .before .before .before .before .args .end) (c .before .before .record-at .result) (c .before .first-arm .result) (c .second-arm .result)
 here t c = record {
   less = c .before .before .before .loop-test .taken;
   walk = c .before .before .before .before .loop .inv .3;
-  fields = c .before .before .fields-at .ensures;
+  fields = c .before .before .record-at .ensures;
   one = c .before .first-arm .ensures .0;
   two = c .second-arm .ensures .0;
 }
@@ -70,10 +70,10 @@ arms : (t : ℕ) (c : mark-written-lts.After-second-arm (calls t) (mark-written-
 arms t c = arms-of _ _ _ _ _ _ (here t c)
 
 mark-written-loop-holds : (t : ℕ) → mark-written-lts.Need-loop-holds (calls t) (mark-written-at t) mark-written.Post mark-written-Inv-loop mark-written-μ-loop
-mark-written-loop-holds t c = (search needs, search needs, c .before .pre .1 .0, c .before .pre .1 .4, (λ l k. k))
+mark-written-loop-holds t c = (search needs, search needs, c .before .pre .1 .0, c .before .pre .1 .5, (λ l k. k))
 
-mark-written-fields-at-requires : (t : ℕ) → mark-written-lts.Need-fields-at-requires (calls t) (mark-written-at t) mark-written.Post mark-written-Inv-loop mark-written-μ-loop
-mark-written-fields-at-requires t c κs = search needs
+mark-written-record-at-requires : (t : ℕ) → mark-written-lts.Need-record-at-requires (calls t) (mark-written-at t) mark-written.Post mark-written-Inv-loop mark-written-μ-loop
+mark-written-record-at-requires t c κs = search needs
 
 mark-written-add-second : (t : ℕ) → mark-written-lts.Need-add-second (calls t) (mark-written-at t) mark-written.Post mark-written-Inv-loop mark-written-μ-loop
 mark-written-add-second t c = search needs
@@ -94,10 +94,10 @@ mark-written-add-mark-written : (t : ℕ) → mark-written-lts.Need-add-mark-wri
 mark-written-add-mark-written t c = search needs
 
 mark-written-mark-written-requires : (t : ℕ) → mark-written-lts.Need-mark-written-requires (calls t) (mark-written-at t) mark-written.Post mark-written-Inv-loop mark-written-μ-loop
-mark-written-mark-written-requires t c κs = let a = arms t (c .before .before .before) in (omega arith, (length-none, c .before .before .before .before .before .before .before .before .before .pre .1 .1, omega arith, omega arith, a .one))
+mark-written-mark-written-requires t c κs = let a = arms t (c .before .before .before) in let p = c .before .before .before .before .before .before .before .before .before .pre .1 .4 in (omega arith, (length-none, c .before .before .before .before .before .before .before .before .before .pre .1 .1, omega arith, omega arith, record { place = p .place; room = omega arith }, a .one))
 
 mark-written-mark-written-requires-2 : (t : ℕ) → mark-written-lts.Need-mark-written-requires-2 (calls t) (mark-written-at t) mark-written.Post mark-written-Inv-loop mark-written-μ-loop
-mark-written-mark-written-requires-2 t c κs = let a = arms t (c .before .before .before .before .before) in (omega arith, (length-none, c .before .before .before .before .before .before .before .before .before .before .before .pre .1 .1, omega arith, omega arith, a .two))
+mark-written-mark-written-requires-2 t c κs = let a = arms t (c .before .before .before .before .before) in let p = c .before .before .before .before .before .before .before .before .before .before .before .pre .1 .4 in (omega arith, (length-none, c .before .before .before .before .before .before .before .before .before .before .before .pre .1 .1, omega arith, omega arith, record { place = p .place; room = omega arith }, a .two))
 
 mark-written-mark-both-requires : (t : ℕ) → mark-written-lts.Need-mark-both-requires (calls t) (mark-written-at t) mark-written.Post mark-written-Inv-loop mark-written-μ-loop
 mark-written-mark-both-requires t c κs = c .before .before .before .before .before .before .before .before .before .before .before .before .before .loop .inv .2
@@ -131,7 +131,7 @@ pub +mark-written-spec : {M : Type 1} → statement M
     mark-written-Inv-loop
     mark-written-μ-loop
     (mark-written-loop-holds t)
-    (mark-written-fields-at-requires t)
+    (mark-written-record-at-requires t)
     (mark-written-add-second t)
     (mark-written-first-arm-requires t)
     (mark-written-add-second-2 t)

@@ -9,6 +9,7 @@ use Rattle.model.specs.Sides.{cells, first-of, array-of}
 use Rattle.model.specs.Judging.{always-writes}
 use Rattle.reading.specs.declared.Fields.{Fields}
 use Rattle.reading.specs.Bytes.{array-count, arrays-of}
+use Rattle.reading.specs.Inner.Cells.{from-of, to-of}
 use Rattle.format.specs.Plans.{side-of}
 use Rattle.format.specs.Inner.Walks.{block-between}
 
@@ -36,7 +37,9 @@ pub record Tables (f starts sides : List ℕ) : Type 0 where
 -- whether a record with the fields x writes cell c, if on the side for its array
 unfoldable pub hits : List ℕ → List ℕ → Fields → ℕ → Bool
 hits starts sides x c =
-    eqb (x .kind) 2 && (eqb (x .side) (getD sides (x .array) 0) && (leb (getD starts (x .array) 0 + x .p) c && ltb c (getD starts (x .array) 0 + x .q)))
+    let first = getD starts (x .array) 0 in
+    let next = getD starts (x .array + 1) 0 in
+    eqb (x .kind) 2 && (eqb (x .side) (getD sides (x .array) 0) && (leb (from-of x first) c && ltb c (to-of x first next)))
 
 -- whether every way through the records r up to `end` writes cell c on the side for its array
 unfoldable pub always : List ℕ → List ℕ → ℕ → ℕ → ℕ → Bool

@@ -14,7 +14,7 @@ use borrow.Fn.PlainCycle.{Measures, is, falls, and}
 use Rattle.records.proofs.block.Reads as block
 use Rattle.records.proofs.block.Kinds as block-kinds
 use Rattle.records.proofs.+block.Lts-block as block-lts
-use Rattle.reading.proofs.fields_at.Reads as fields-at-reads
+use Rattle.reading.proofs.record_at.Reads as record-at-reads
 use Rattle.reading.proofs.first_arm.Reads as first-arm-reads
 use Rattle.reading.proofs.second_arm.Reads as second-arm-reads
 use Rattle.records.proofs.record_tests.Reads as record-tests-reads
@@ -22,7 +22,7 @@ use Rattle.records.proofs.+block.{statement}
 use Rattle.records.proofs.+block.Tie.{close}
 
 abbrev μ-block : Measures 1 block-kinds.ps ℕ
-μ-block κs a = a .1 .1 .1 .1 .1 .0 - a .1 .1 .1 .1 .0
+μ-block κs a = a .1 .1 .1 .1 .1 .1 .0 - a .1 .1 .1 .1 .1 .0
 
 abbrev block-at : ℕ → In 1 block-kinds.ps
 block-at t = and 1 block-kinds.ps (is 1 block-kinds.ps μ-block t) block.Pre
@@ -31,21 +31,21 @@ abbrev block-below : ℕ → In 1 block-kinds.ps
 block-below t = and 1 block-kinds.ps (falls 1 block-kinds.ps _<_ μ-block t) block.Pre
 
 abbrev block-Inv-loop : block-lts.InvT-loop
-block-Inv-loop plan body until depth from end r₀ r = (from ≤ r) × (r ≤ end) × ((v : Verdict) → Answers plan body depth r end v → Answers plan body depth from end v)
+block-Inv-loop plan bodies body until depth from end r₀ r = (from ≤ r) × (r ≤ end) × ((v : Verdict) → Answers plan body depth r end v → Answers plan body depth from end v)
 
 abbrev block-μ-loop : block-lts.MeasureT-loop
-block-μ-loop plan body until depth from end r₀ r = end - r
+block-μ-loop plan bodies body until depth from end r₀ r = end - r
 
 -- what each callee asks and gives, this one below t
 abbrev calls : ℕ → block-lts.Claims
-calls t = (fields-at-reads.Asked, fields-at-reads.Learnt, record-tests-reads.Asked, record-tests-reads.Learnt, first-arm-reads.Asked, first-arm-reads.Learnt, second-arm-reads.Asked, second-arm-reads.Learnt, block-below t, block.Post)
+calls t = (record-at-reads.Asked, record-at-reads.Learnt, record-tests-reads.Asked, record-tests-reads.Learnt, first-arm-reads.Asked, first-arm-reads.Learnt, second-arm-reads.Asked, second-arm-reads.Learnt, block-below t, block.Post)
 
 -- record r has passed its tests
 passes : (t : ℕ) (c : block-lts.After-second-arm (calls t) (block-at t) block.Post block-Inv-loop block-μ-loop) → Passes (c .before .before .before .before .before .before .before .before .before .args .plan .now) (c .before .before .before .before .before .before .before .before .before .args .body) (c .before .before .before .before .before .before .before .before .before .args .depth) (c .before .before .before .before .before .before .before .loop .r) (c .before .before .before .before .before .before .before .before .before .args .end) (c .before .first-arm .result) (c .second-arm .result)
 passes t c = record {
   less = c .before .before .before .before .before .before .loop-test .taken;
-  one = c .before .first-arm .ensures .0 ∙ ap first-arm (c .before .before .before .before .before .fields-at .ensures);
-  two = c .second-arm .ensures .0 ∙ ap second-arm (c .before .before .before .before .before .fields-at .ensures);
+  one = c .before .first-arm .ensures .0 ∙ ap first-arm (c .before .before .before .before .before .record-at .ensures);
+  two = c .second-arm .ensures .0 ∙ ap second-arm (c .before .before .before .before .before .record-at .ensures);
   accepts = sym (c .before .before .enum-told .given .1) ∙ c .before .before .before .before .record-tests .ensures;
 }
 
@@ -56,8 +56,8 @@ one t c = rw (c .enum-told2 .given .1) at (c .before .before .block .ensures)
 block-loop-holds : (t : ℕ) → block-lts.Need-loop-holds (calls t) (block-at t) block.Post block-Inv-loop block-μ-loop
 block-loop-holds t c = (search needs, search needs, (λ v a. a))
 
-block-fields-at-requires : (t : ℕ) → block-lts.Need-fields-at-requires (calls t) (block-at t) block.Post block-Inv-loop block-μ-loop
-block-fields-at-requires t c κs = search needs
+block-record-at-requires : (t : ℕ) → block-lts.Need-record-at-requires (calls t) (block-at t) block.Post block-Inv-loop block-μ-loop
+block-record-at-requires t c κs = search needs
 
 block-record-tests-requires : (t : ℕ) → block-lts.Need-record-tests-requires (calls t) (block-at t) block.Post block-Inv-loop block-μ-loop
 block-record-tests-requires t c κs = search needs
@@ -140,7 +140,7 @@ pub +block-spec : {M : Type 1} → statement M
     block-Inv-loop
     block-μ-loop
     (block-loop-holds t)
-    (block-fields-at-requires t)
+    (block-record-at-requires t)
     (block-record-tests-requires t)
     (block-enum-told t)
     (block-returns t)

@@ -11,13 +11,13 @@ fields-fit-requires : tie.Need-fields-fit-requires
 fields-fit-requires c κs = search needs
 
 returns : tie.Need-returns
-returns c = field-stop _ _ _ _ _ _ (c .before .before .before .pre .1) _ (c .before .fields-fit .ensures) (c .if1 .taken)
+returns c = field-stop _ _ _ _ _ _ (c .before .before .before .pre .2) _ (c .before .fields-fit .ensures) (c .if1 .taken)
 
 kind-allowed-requires : tie.Need-kind-allowed-requires
 kind-allowed-requires c κs = search needs
 
 returns-2 : tie.Need-returns-2
-returns-2 c = kind-stop _ _ _ _ _ _ (c .before .before .before .before .before .pre .1) _ (c .before .before .before .fields-fit .ensures) (c .before .before .if1 .left) _ (c .before .kind-allowed .ensures) (c .if2 .taken)
+returns-2 c = kind-stop _ _ _ _ _ _ (c .before .before .before .before .before .pre .2) _ (c .before .before .before .fields-fit .ensures) (c .before .before .if1 .left) _ (c .before .kind-allowed .ensures) (c .if2 .taken)
 
 add-next : tie.Need-add-next
 add-next c = search needs
@@ -38,10 +38,10 @@ deepest-requires : tie.Need-deepest-requires
 deepest-requires c κs = search needs
 
 returns-3 : tie.Need-returns-3
-returns-3 c = arm-stop _ _ _ _ _ _ (c .before .before .before .before .before .before .before .before .before .before .before .pre .1) _ (c .before .before .before .before .before .before .before .before .before .fields-fit .ensures) (c .before .before .before .before .before .before .before .before .if1 .left) _ (c .before .before .before .before .before .before .before .kind-allowed .ensures) (c .before .before .before .before .before .before .if2 .left) _ _ _ (c .before .before .before .before .before .first-arm .ensures .0) (c .before .before .before .before .second-arm .ensures .0) (c .before .before .before .deepest .ensures) (c .if3 .taken)
+returns-3 c = arm-stop _ _ _ _ _ _ (c .before .before .before .before .before .before .before .before .before .before .before .pre .2) _ (c .before .before .before .before .before .before .before .before .before .fields-fit .ensures) (c .before .before .before .before .before .before .before .before .if1 .left) _ (c .before .before .before .before .before .before .before .kind-allowed .ensures) (c .before .before .before .before .before .before .if2 .left) _ _ _ (c .before .before .before .before .before .first-arm .ensures .0) (c .before .before .before .before .second-arm .ensures .0) (c .before .before .before .deepest .ensures) (c .if3 .taken)
 
 returns-4 : tie.Need-returns-4
-returns-4 c = record-pass _ _ _ _ _ _ (c .before .before .before .before .before .before .before .before .before .before .before .pre .1) _ (c .before .before .before .before .before .before .before .before .before .fields-fit .ensures) (c .before .before .before .before .before .before .before .before .if1 .left) _ (c .before .before .before .before .before .before .before .kind-allowed .ensures) (c .before .before .before .before .before .before .if2 .left) _ _ _ (c .before .before .before .before .before .first-arm .ensures .0) (c .before .before .before .before .second-arm .ensures .0) (c .before .before .before .deepest .ensures) (c .if3 .left)
+returns-4 c = record-pass _ _ _ _ _ _ (c .before .before .before .before .before .before .before .before .before .before .before .pre .2) _ (c .before .before .before .before .before .before .before .before .before .fields-fit .ensures) (c .before .before .before .before .before .before .before .before .if1 .left) _ (c .before .before .before .before .before .before .before .kind-allowed .ensures) (c .before .before .before .before .before .before .if2 .left) _ _ _ (c .before .before .before .before .before .first-arm .ensures .0) (c .before .before .before .before .second-arm .ensures .0) (c .before .before .before .deepest .ensures) (c .if3 .left)
 
 pub record-tests-spec : {M : Type 1} → statement M
 record-tests-spec =

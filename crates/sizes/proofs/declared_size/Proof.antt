@@ -11,25 +11,25 @@ use Rattle.sizes.proofs.declared_size.Statement.{statement}
 use Rattle.sizes.proofs.declared_size.Tie as tie
 
 abbrev Inv-loop : tie.InvT-loop
-Inv-loop plan from count n₀ i₀ n i = (i ≤ count) × (n ≡ size (declared-from plan from i))
+Inv-loop plan bodies from count n₀ i₀ n i = (i ≤ count) × (n ≡ size (declared-from plan from i))
 
 abbrev μ-loop : tie.MeasureT-loop
-μ-loop plan from count n₀ i₀ n i = count - i
+μ-loop plan bodies from count n₀ i₀ n i = count - i
 
 loop-holds : tie.Need-loop-holds Inv-loop μ-loop
 loop-holds c = (search needs, sym (same-size (declared-from _ _ 0) _ (declared-none _ _)))
 
-add-fields-at : tie.Need-add-fields-at Inv-loop μ-loop
-add-fields-at c = search needs
+add-record-at : tie.Need-add-record-at Inv-loop μ-loop
+add-record-at c = search needs
 
-fields-at-requires : tie.Need-fields-at-requires Inv-loop μ-loop
-fields-at-requires c κs = search needs
+record-at-requires : tie.Need-record-at-requires Inv-loop μ-loop
+record-at-requires c κs = search needs
 
 given-size-requires : tie.Need-given-size-requires Inv-loop μ-loop
 given-size-requires c κs = search needs
 
 add-n : tie.Need-add-n Inv-loop μ-loop
-add-n c = record { fits = omega (arith, declared-low (c .before .before .before .before .before .args .plan .now) (c .before .before .before .before .before .args .from) (c .before .before .before .loop .i), given-low (c .before .fields-at .result)) }
+add-n c = record { fits = omega (arith, declared-low (c .before .before .before .before .before .args .plan .now) (c .before .before .before .before .before .args .from) (c .before .before .before .loop .i), given-low (c .before .record-at .result)) }
 
 add-i : tie.Need-add-i Inv-loop μ-loop
 add-i c = search needs
@@ -40,7 +40,7 @@ loop-less c = search needs
 loop-again : tie.Need-loop-again Inv-loop μ-loop
 loop-again c =
     let l = c .before .before .before .loop in
-    (omega arith, declared-step _ _ _ _ _ _ (l .inv .1) (c .before .fields-at .ensures) (c .given-size .ensures))
+    (omega arith, declared-step _ _ _ _ _ _ (l .inv .1) (c .before .record-at .ensures) (c .given-size .ensures))
 
 returns : tie.Need-returns Inv-loop μ-loop
 returns c =
@@ -55,8 +55,8 @@ declared-size-spec =
     Inv-loop
     μ-loop
     loop-holds
-    add-fields-at
-    fields-at-requires
+    add-record-at
+    record-at-requires
     given-size-requires
     add-n
     add-i

@@ -1,74 +1,84 @@
 -- `sizes::pass_size` counts the records that a call of a pass becomes.
 use native.Mathlib.Omega.{arith}
-use Rattle.sizes.proofs.Passes.{declared-low, Spans, spans, called-counted}
 use lib.ListN.{getD}
+use Rattle.contents.proofs.Found.{BodyAt}
+use Rattle.sizes.proofs.Passes.{declared-low, stands, called-counted}
+use borrow.Author.Needs.{needs}
 use Rattle.sizes.proofs.pass_size.Statement.{statement}
 use Rattle.sizes.proofs.pass_size.Tie as tie
 
 -- where the pass's records stand
-span : (c : tie.Start) → Spans (c .args .plan .now) (c .args .b) (c .args .starts .now)
-span c = spans _ (c .pre .0) _ (c .pre .2) (c .pre .3) _ (c .pre .1)
+at : (c : tie.Start) → BodyAt (c .args .plan .now) (c .args .o) (c .args .b)
+at c = stands _ (c .pre .0) _ (c .pre .2) (c .pre .3) _ (c .pre .1)
+
+cast-bodies : tie.Need-cast-bodies
+cast-bodies c = search needs
 
 mul-from : tie.Need-mul-from
-mul-from c = let s = span (c .before) in record { fits = omega arith }
+mul-from c = let s = at (c .before .before .before .before) in search needs
 
-element-copy-out-from : tie.Need-element-copy-out-from
-element-copy-out-from c = let s = span (c .before) in omega arith
+array-read-from : tie.Need-array-read-from
+array-read-from c = let s = at (c .before .before .before .before) in search needs
 
 cast-from : tie.Need-cast-from
-cast-from c = let s = span (c .before .before) in record { fits = omega arith }
+cast-from c = let s = at (c .before .before .before .before) in search needs
 
 add-end : tie.Need-add-end
-add-end c = let s = span (c .before .before) in record { fits = omega arith }
+add-end c = let s = at (c .before .before .before .before) in search needs
 
 mul-end : tie.Need-mul-end
-mul-end c = let s = span (c .before .before) in record { fits = omega arith }
+mul-end c = let s = at (c .before .before .before .before) in search needs
 
-element-copy-out-end : tie.Need-element-copy-out-end
-element-copy-out-end c = let s = span (c .before .before) in omega arith
+array-read-end : tie.Need-array-read-end
+array-read-end c = let s = at (c .before .before .before .before) in search needs
 
 cast-end : tie.Need-cast-end
-cast-end c = let s = span (c .before .before .before) in record { fits = omega arith }
+cast-end c = let s = at (c .before .before .before .before) in search needs
 
-declarations-in-requires : tie.Need-declarations-in-requires
-declarations-in-requires c κs = let s = span (c .before .before .before) in omega arith
+array-read-count : tie.Need-array-read-count
+array-read-count c = let s = at (c .before .before .before .before) in search needs
+
+cast-count : tie.Need-cast-count
+cast-count c = let s = at (c .before .before .before .before) in search needs
 
 declared-size-requires : tie.Need-declared-size-requires
-declared-size-requires c κs = let s = span (c .before .before .before .before) in omega (arith, c .declarations-in .ensures .0)
+declared-size-requires c κs = let s = at (c .before .before .before .before) in (omega arith, record { place = s .inside .place; room = omega arith })
 
 sub-result : tie.Need-sub-result
-sub-result c = let s = span (c .before .before .before .before .before) in omega arith
+sub-result c = let s = at (c .before .before .before .before .before) in omega arith
 
 sub-result-2 : tie.Need-sub-result-2
-sub-result-2 c = let s = span (c .before .before .before .before .before) in omega (arith, c .before .declarations-in .ensures .0)
+sub-result-2 c = let s = at (c .before .before .before .before .before) in omega arith
 
 cast-result : tie.Need-cast-result
-cast-result c = let s = span (c .before .before .before .before .before) in omega arith
+cast-result c = let s = at (c .before .before .before .before .before) in omega arith
 
 add-result : tie.Need-add-result
 add-result c =
     let u = c .before .before .before .before .before in
-    let s = span u in
-    record { fits = omega (arith, c .declared-size .ensures, declared-low (u .args .plan .now) (getD (u .args .starts .now) (u .args .b) 0) (c .before .declarations-in .result)) }
+    let s = at u in
+    record { fits = omega (arith, c .declared-size .ensures, declared-low (u .args .plan .now) (getD (u .args .o .«body_starts») (u .args .b) 0) (getD (u .args .o .declarations) (u .args .b) 0)) }
 
 returns : tie.Need-returns
 returns c =
     let u = c .before .before .before .before .before in
-    let s = span u in
-    called-counted _ (u .pre .0) _ (u .pre .2) (u .pre .3) _ _ _ _ (s .from-is) (s .end-is) (c .before .declarations-in .ensures .0) (c .declared-size .ensures)
+    let s = at u in
+    called-counted _ (u .pre .0) _ (u .pre .2) (u .pre .3) _ _ _ _ (s .from-is) (s .end-is) (s .declarations-are) (c .declared-size .ensures)
 
 pub pass-size-spec : {M : Type 1} → statement M
 pass-size-spec =
     tie.close
     (tie.spec
+    cast-bodies
     mul-from
-    element-copy-out-from
+    array-read-from
     cast-from
     add-end
     mul-end
-    element-copy-out-end
+    array-read-end
     cast-end
-    declarations-in-requires
+    array-read-count
+    cast-count
     declared-size-requires
     sub-result
     sub-result-2

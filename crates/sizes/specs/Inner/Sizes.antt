@@ -9,7 +9,7 @@ use Rattle.model.specs.declared.Verdict.the-variants.{Accepted}
 use Rattle.model.specs.Blocks.{Block, size}
 use Rattle.model.specs.Expanding.{given, declared}
 use Rattle.reading.specs.declared.Fields.{Fields}
-use Rattle.reading.specs.Bytes.{kind-of, body-count, table, first-record, fields-at}
+use Rattle.reading.specs.Bytes.{kind-of, body-count, records-in, table, fields-at}
 use Rattle.format.specs.Opening.{opening}
 use Rattle.format.specs.Plans.{declaration-of, pass-at}
 
@@ -39,14 +39,10 @@ unfoldable pub place : List ℕ → ℕ → ℕ
 place f zero = 0
 place f (suc r) = place f r + record-size f r
 
--- the first record of each body; the entry after the last has their number
-pub record BodyStarts (f : List ℕ) (starts : List ℕ) : Type 0 where
-  pub each : (b : ℕ) → b ≤ body-count f → getD starts b 0 ≡ first-record f b
-
 -- how many records a call of each pass becomes
 pub record PassSizes (f : List ℕ) (sizes : List ℕ) : Type 0 where
   pub each : (b : ℕ) → 1 ≤ b → b < body-count f → getD sizes b 0 ≡ size (called f b)
 
--- the places of body 0's records, up to record `end`
-pub record Places (f : List ℕ) (end : ℕ) (places : List ℕ) : Type 0 where
-  pub each : (r : ℕ) → r ≤ end → getD places r 0 ≡ place f r
+-- the places of body 0's records, and after the last the size of the expansion
+pub record Places (f : List ℕ) (places : List ℕ) : Type 0 where
+  pub each : (r : ℕ) → r ≤ records-in f 0 → getD places r 0 ≡ place f r

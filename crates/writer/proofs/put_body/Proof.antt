@@ -14,10 +14,10 @@ use Rattle.writer.proofs.put_body.Statement.{statement}
 use Rattle.writer.proofs.put_body.Tie as tie
 
 abbrev Inv-loop : tie.InvT-loop
-Inv-loop plan starts places out₀ end r₀ out r = (r ≤ end) × (length out ≡ length out₀) × (out ≡ over (bytes-of (pieces plan r)) out₀)
+Inv-loop plan o places out₀ end r₀ out r = (r ≤ end) × (length out ≡ length out₀) × (out ≡ over (bytes-of (pieces plan r)) out₀)
 
 abbrev μ-loop : tie.MeasureT-loop
-μ-loop plan starts places out₀ end r₀ out r = end - r
+μ-loop plan o places out₀ end r₀ out r = end - r
 
 -- there is room for what stands for record r
 room : (c : tie.In-loop Inv-loop μ-loop) → 8 * (getD (c .before .before .before .before .args .places .now) (c .before .loop .r) 0 + record-size (c .before .before .before .before .args .plan .now) (c .before .loop .r)) ≤ length (c .before .before .before .before .args .out .now)
@@ -57,7 +57,7 @@ put-piece-requires c κs =
     let f = u .args .plan .now in
     let e = u .pre .2 .each (l .r) (omega arith) in
     let long : length (bytes-of (pieces f (l .r))) ≤ length (u .args .out .now) = omega (arith, room (c .before .before), bytes-length (pieces f (l .r)), pieces-length f (l .r)) in
-    (u .pre .0, u .pre .1, u .pre .2, u .pre .3, c .before .before .loop-test .taken, u .pre .4, lent-room _ _ _ _ _ (l .inv .2) long (omega (arith, room (c .before .before))))
+    (u .pre .0, u .pre .1, u .pre .2, omega arith, rw (u .pre .3) at (u .pre .4), lent-room _ _ _ _ _ (l .inv .2) long (omega (arith, room (c .before .before))))
 
 add-r : tie.Need-add-r Inv-loop μ-loop
 add-r c = search needs

@@ -17,29 +17,29 @@ use Rattle.writer.proofs.put_declarations.Statement.{statement}
 use Rattle.writer.proofs.put_declarations.Tie as tie
 
 abbrev Inv-loop : tie.InvT-loop
-Inv-loop plan out₀ from count n₀ i₀ out n i =
+Inv-loop plan bodies out₀ from count n₀ i₀ out n i =
     (i ≤ count) × (n ≡ size (declared-from plan from i)) × (length out ≡ length out₀) × (out ≡ over (bytes-of (block-fields (declared-from plan from i))) out₀)
 
 abbrev μ-loop : tie.MeasureT-loop
-μ-loop plan out₀ from count n₀ i₀ out n i = count - i
+μ-loop plan bodies out₀ from count n₀ i₀ out n i = count - i
 
 -- there is room for one declaration more
-room : (c : tie.After-fields-at Inv-loop μ-loop) → 8 * (c .before .before .loop .n + size (given-by (c .fields-at .result))) ≤ length (c .before .before .before .before .before .args .out .now)
+room : (c : tie.After-record-at Inv-loop μ-loop) → 8 * (c .before .before .loop .n + size (given-by (c .record-at .result))) ≤ length (c .before .before .before .before .before .args .out .now)
 room c =
     let u = c .before .before .before .before .before in
     let l = c .before .before .loop in
     let f = u .args .plan .now in
-    let n = declared-step f (u .args .from) _ _ _ _ (l .inv .1) (c .fields-at .ensures) refl in
+    let n = declared-step f (u .args .from) _ _ _ _ (l .inv .1) (c .record-at .ensures) refl in
     omega (arith, declared-within f (u .args .from) (l .i + 1) (u .args .count) (omega arith))
 
 loop-holds : tie.Need-loop-holds Inv-loop μ-loop
 loop-holds c = (search needs, sym (same-size (declared-from _ _ 0) _ (declared-none _ _)), search needs, rw declared-none (bytes-none _))
 
-add-fields-at : tie.Need-add-fields-at Inv-loop μ-loop
-add-fields-at c = search needs
+add-record-at : tie.Need-add-record-at Inv-loop μ-loop
+add-record-at c = search needs
 
-fields-at-requires : tie.Need-fields-at-requires Inv-loop μ-loop
-fields-at-requires c κs = omega (arith, c .before .before .before .before .pre .0 .few)
+record-at-requires : tie.Need-record-at-requires Inv-loop μ-loop
+record-at-requires c κs = let w = c .before .before .before .before .pre .1 in (w .place, omega arith)
 
 mul-at : tie.Need-mul-at Inv-loop μ-loop
 mul-at c = record { fits = omega (arith, room c) }
@@ -56,7 +56,7 @@ part-put-declaration-end c = search needs
 put-declaration-requires : tie.Need-put-declaration-requires Inv-loop μ-loop
 put-declaration-requires c κs =
     let u = c .before .before .before .before .before .before in
-    let e = c .before .fields-at .ensures in
+    let e = c .before .record-at .ensures in
     (rw e (u .pre .0 .sides (c .before .before .before .loop .i) (c .before .before .loop-test .taken)), lent-room _ _ _ _ _ (c .before .before .before .loop .inv .3) (omega (arith, room (c .before), block-bytes-length (declared-from (u .args .plan .now) (u .args .from) (c .before .before .before .loop .i)))) (omega (arith, room (c .before))))
 
 add-n : tie.Need-add-n Inv-loop μ-loop
@@ -72,7 +72,7 @@ loop-again : tie.Need-loop-again Inv-loop μ-loop
 loop-again c =
     let u = c .before .before .before .before .before .before .before .before .before in
     let l = c .before .before .before .before .before .before .loop in
-    let e = c .before .before .before .before .fields-at .ensures in
+    let e = c .before .before .before .before .record-at .ensures in
     let p = c .before .before .put-declaration .ensures in
     let n = declared-step _ _ _ _ _ _ (l .inv .1) e (p .0) in
     (omega arith, n, search needs, declared-written _ _ _ _ _ _ _ _ (l .inv .1) e (omega (arith, room (c .before .before .before .before))) (l .inv .3) (p .1))
@@ -93,8 +93,8 @@ put-declarations-spec =
     Inv-loop
     μ-loop
     loop-holds
-    add-fields-at
-    fields-at-requires
+    add-record-at
+    record-at-requires
     mul-at
     sub-put-declaration
     part-put-declaration-start

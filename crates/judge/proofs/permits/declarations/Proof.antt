@@ -10,14 +10,14 @@ use Rattle.reading.specs.Bytes.{table}
 use Rattle.model.proofs.Rows.{refused, each-none, each-more, each-stop}
 use Rattle.judge.specs.Judged.{record-rows}
 use Rattle.judge.specs.Inner.Passes.{declared-field, kinds-of, sides-of}
-use Rattle.judge.proofs.Laws.Records.{arrays-low, declared-low, records-low, declaration-array}
+use Rattle.judge.proofs.Laws.Records.{arrays-low, declared-low, records-low, records-inside, declaration-array}
 use Rattle.judge.proofs.Laws.Declarations.{twice, once, stored}
 use borrow.Author.Needs.{needs}
 use Rattle.judge.proofs.permits.declarations.Statement.{statement}
 use Rattle.judge.proofs.permits.declarations.Tie as tie
 
 abbrev Inv-loop : tie.InvT-loop
-Inv-loop plan e kinds₀ sides₀ i₀ kinds sides i =
+Inv-loop plan e bodies kinds₀ sides₀ i₀ kinds sides i =
     (i ≤ e .declarations)
     × (Accepted ≡ first (each i (record-rows plan (e .body))))
     × (length kinds ≡ 32)
@@ -26,11 +26,11 @@ Inv-loop plan e kinds₀ sides₀ i₀ kinds sides i =
     × (sides ≡ sides-of plan (e .from) i)
 
 abbrev μ-loop : tie.MeasureT-loop
-μ-loop plan e kinds₀ sides₀ i₀ kinds sides i = e .declarations - i
+μ-loop plan e bodies kinds₀ sides₀ i₀ kinds sides i = e .declarations - i
 
 -- the array of declaration i is below 32
-below : (c : tie.After-struct-known3 Inv-loop μ-loop) → c .before .fields-at .result .array < 32
-below c = rw (c .before .fields-at .ensures) (omega (arith, declaration-array _ _ (c .before .before .before .before .before .before .before .pre) _ (c .before .before .before .if1 .taken) .1, arrays-low _ _ (c .before .before .before .before .before .before .before .pre)))
+below : (c : tie.After-struct-known3 Inv-loop μ-loop) → c .before .record-at .result .array < 32
+below c = rw (c .before .record-at .ensures) (omega (arith, declaration-array _ _ (c .before .before .before .before .before .before .before .pre) _ (c .before .before .before .if1 .taken) .1, arrays-low _ _ (c .before .before .before .before .before .before .before .pre)))
 
 loop-holds : tie.Need-loop-holds Inv-loop μ-loop
 unfolding table declared-field
@@ -39,8 +39,8 @@ loop-holds c = (search needs, each-none _, search needs, search needs, refl, ref
 add-r : tie.Need-add-r Inv-loop μ-loop
 add-r c = omega (arith, records-low _ _ (c .before .before .before .before .before .pre), declared-low _ _ (c .before .before .before .before .before .pre))
 
-fields-at-requires : tie.Need-fields-at-requires Inv-loop μ-loop
-fields-at-requires c κs = omega (arith, records-low _ _ (c .before .before .before .before .before .pre), declared-low _ _ (c .before .before .before .before .before .pre))
+record-at-requires : tie.Need-record-at-requires Inv-loop μ-loop
+record-at-requires c κs = let w = records-inside _ _ (c .before .before .before .before .before .pre) in (w .place, omega (arith, declared-low _ _ (c .before .before .before .before .before .pre)))
 
 cast-a : tie.Need-cast-a Inv-loop μ-loop
 cast-a c = search needs
@@ -48,13 +48,13 @@ cast-a c = search needs
 array-read-if2 : tie.Need-array-read-if2 Inv-loop μ-loop
 array-read-if2 c = omega (arith, below c, c .before .before .before .before .before .loop .inv .2)
 
-cast-t13 : tie.Need-cast-t13 Inv-loop μ-loop
-cast-t13 c = omega (arith, records-low _ _ (c .before .before .before .before .before .before .before .before .pre), declared-low _ _ (c .before .before .before .before .before .before .before .before .pre))
+cast-t14 : tie.Need-cast-t14 Inv-loop μ-loop
+cast-t14 c = omega (arith, records-low _ _ (c .before .before .before .before .before .before .before .before .pre), declared-low _ _ (c .before .before .before .before .before .before .before .before .pre))
 
 returns : tie.Need-returns Inv-loop μ-loop
 returns c =
     let l = c .before .before .before .before .before .before .loop in
-    (each-stop _ _ _ _ (refused refl) (l .inv .1) (twice _ _ (c .before .before .before .before .before .before .before .before .pre) _ (c .before .before .before .before .if1 .taken) _ (c .before .before .fields-at .ensures) _ (l .inv .4) (c .if2 .taken)) (rw (← c .before .before .before .before .before .before .before .before .pre .declarations-are) (c .before .before .before .before .if1 .taken)), (λ a. absurd (refused refl a)))
+    (each-stop _ _ _ _ (refused refl) (l .inv .1) (twice _ _ (c .before .before .before .before .before .before .before .before .pre) _ (c .before .before .before .before .if1 .taken) _ (c .before .before .record-at .ensures) _ (l .inv .4) (c .if2 .taken)) (rw (← c .before .before .before .before .before .before .before .before .pre .declarations-are) (c .before .before .before .before .if1 .taken)), (λ a. absurd (refused refl a)))
 
 array-write-kinds : tie.Need-array-write-kinds Inv-loop μ-loop
 array-write-kinds c = omega (arith, below (c .before), c .before .before .before .before .before .before .loop .inv .2)
@@ -73,7 +73,7 @@ loop-again c =
     let l = c .before .before .before .before .before .before .loop in
     let w = c .before .before .before .before .before .before .before .before .pre in
     let h = c .before .before .before .before .if1 .taken in
-    let x = c .before .before .fields-at .ensures in
+    let x = c .before .before .record-at .ensures in
     (omega arith, each-more _ _ (l .inv .1) (once _ _ w _ h _ x _ (l .inv .4) (c .if2 .left)), search needs, search needs, stored _ _ w _ h _ x (λ y. y .kind) _ (l .inv .4), stored _ _ w _ h _ x (λ y. y .side) _ (l .inv .5))
 
 returns-2 : tie.Need-returns-2 Inv-loop μ-loop
@@ -90,10 +90,10 @@ declarations-spec =
     μ-loop
     loop-holds
     add-r
-    fields-at-requires
+    record-at-requires
     cast-a
     array-read-if2
-    cast-t13
+    cast-t14
     returns
     array-write-kinds
     array-write-sides

@@ -6,24 +6,24 @@ use Rattle.model.specs.declared.Verdict.the-variants.{Accepted}
 use Rattle.model.specs.Rows.{first, each}
 use Rattle.model.proofs.Rows.{turned, each-more, each-stop}
 use Rattle.judge.specs.Judged.{record-rows}
-use Rattle.judge.proofs.Laws.Records.{declared-low, records-low}
+use Rattle.judge.proofs.Laws.Records.{declared-low, records-low, records-inside}
 use Rattle.judge.proofs.Laws.Declarations.{array-low, uses-are}
 use borrow.Author.Needs.{needs}
 use Rattle.judge.proofs.permits.uses.Statement.{statement}
 use Rattle.judge.proofs.permits.uses.Tie as tie
 
 abbrev Inv-loop : tie.InvT-loop
-Inv-loop plan e kinds sides i₀ i = (e .declarations ≤ i) × (i ≤ e .records) × (Accepted ≡ first (each i (record-rows plan (e .body))))
+Inv-loop plan e bodies kinds sides i₀ i = (e .declarations ≤ i) × (i ≤ e .records) × (Accepted ≡ first (each i (record-rows plan (e .body))))
 
 abbrev μ-loop : tie.MeasureT-loop
-μ-loop plan e kinds sides i₀ i = e .records - i
+μ-loop plan e bodies kinds sides i₀ i = e .records - i
 
 -- what record i answers
 rows : (c : tie.After-use-tests Inv-loop μ-loop) → c .use-tests .result ≡ first (record-rows (c .before .before .before .before .before .before .before .before .before .before .args .plan .now) (c .before .before .before .before .before .before .before .before .before .before .args .e .body) (c .before .before .before .before .before .before .loop .i))
-rows c = c .use-tests .ensures ∙ ap first (uses-are _ _ (c .before .before .before .before .before .before .before .before .before .before .pre .0) _ (c .before .before .before .before .before .before .loop .inv .0) (c .before .before .before .before .if1 .taken) _ (c .before .before .fields-at .ensures) _ (c .before .before .before .before .before .before .before .before .before .before .pre .1))
+rows c = c .use-tests .ensures ∙ ap first (uses-are _ _ (c .before .before .before .before .before .before .before .before .before .before .pre .0) _ (c .before .before .before .before .before .before .loop .inv .0) (c .before .before .before .before .if1 .taken) _ (c .before .before .record-at .ensures) _ (c .before .before .before .before .before .before .before .before .before .before .pre .1))
 
-below : (c : tie.After-struct-known3 Inv-loop μ-loop) → c .before .fields-at .result .array < 32
-below c = array-low _ _ (c .before .before .before .before .before .before .before .before .before .pre .0) _ (c .before .before .before .before .before .loop .inv .0) (c .before .before .before .if1 .taken) _ (c .before .fields-at .ensures) _ (c .before .before .before .before .before .before .before .before .before .pre .1)
+below : (c : tie.After-struct-known3 Inv-loop μ-loop) → c .before .record-at .result .array < 32
+below c = array-low _ _ (c .before .before .before .before .before .before .before .before .before .pre .0) _ (c .before .before .before .before .before .loop .inv .0) (c .before .before .before .if1 .taken) _ (c .before .record-at .ensures) _ (c .before .before .before .before .before .before .before .before .before .pre .1)
 
 loop-holds : tie.Need-loop-holds Inv-loop μ-loop
 loop-holds c = let w = declared-low _ _ (c .before .before .before .pre .0) in (search needs, w, c .before .before .before .pre .1 .once)
@@ -31,8 +31,8 @@ loop-holds c = let w = declared-low _ _ (c .before .before .before .pre .0) in (
 add-r : tie.Need-add-r Inv-loop μ-loop
 add-r c = omega (arith, records-low _ _ (c .before .before .before .before .before .before .before .pre .0))
 
-fields-at-requires : tie.Need-fields-at-requires Inv-loop μ-loop
-fields-at-requires c κs = omega (arith, records-low _ _ (c .before .before .before .before .before .before .before .pre .0))
+record-at-requires : tie.Need-record-at-requires Inv-loop μ-loop
+record-at-requires c κs = let w = records-inside _ _ (c .before .before .before .before .before .before .before .pre .0) in (w .place, omega (arith))
 
 cast-a : tie.Need-cast-a Inv-loop μ-loop
 cast-a c = search needs
@@ -74,7 +74,7 @@ uses-spec =
     μ-loop
     loop-holds
     add-r
-    fields-at-requires
+    record-at-requires
     cast-a
     array-read-use-tests
     array-read-use-tests-2

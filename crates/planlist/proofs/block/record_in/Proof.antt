@@ -28,17 +28,17 @@ add-byte-3 c = search needs
 byte-requires-4 : tie.Need-byte-requires-4
 byte-requires-4 c κs = search needs
 
-add-u16-at : tie.Need-add-u16-at
-add-u16-at c = search needs
+add-number-at : tie.Need-add-number-at
+add-number-at c = search needs
 
-u16-at-requires : tie.Need-u16-at-requires
-u16-at-requires c κs = search needs
+number-at-requires : tie.Need-number-at-requires
+number-at-requires c κs = search needs
 
-add-u16-at-2 : tie.Need-add-u16-at-2
-add-u16-at-2 c = search needs
+add-number-at-2 : tie.Need-add-number-at-2
+add-number-at-2 c = search needs
 
-u16-at-requires-2 : tie.Need-u16-at-requires-2
-u16-at-requires-2 c κs = search needs
+number-at-requires-2 : tie.Need-number-at-requires-2
+number-at-requires-2 c κs = search needs
 
 returns : tie.Need-returns
 unfolding fields-in
@@ -56,8 +56,8 @@ record-in-spec =
     byte-requires-3
     add-byte-3
     byte-requires-4
-    add-u16-at
-    u16-at-requires
-    add-u16-at-2
-    u16-at-requires-2
+    add-number-at
+    number-at-requires
+    add-number-at-2
+    number-at-requires-2
     returns)
