@@ -1,6 +1,6 @@
 -- The cells of a memory that a loop has passed: those it has stored, and every other as it was.
 use mathlib.Core.Path.{_≡_, refl, _∙_}
-use mathlib.Core.Bool.{true, false, and-false}
+use mathlib.Core.Bool.{true, false, cond, and-false}
 use mathlib.Core.List.{List}
 use Prim.Native.Nat.{ℕ, suc, _+_, _≤_, _<_}
 use native.Nat.{ℕᴺ-discrete}
@@ -42,6 +42,26 @@ module _ (from : ℕ) (new : ℕ → ℕ) (before : List ℕ) where
       | no e ↦ getD-set-other l c k (new c) 0 e ∙ m .cell k ∙ rw (among-same from c k e)
     ];
   }
+
+-- more is stored behind what is stored
+pub changed-more : {from mid to : ℕ} {new : ℕ → ℕ} {before between after : List ℕ} → from ≤ mid → mid ≤ to → Changed from mid new before between → Changed mid to new between after → Changed from to new before after
+changed-more {from} {mid} {to} {new} {before} {between} {after} h g a b = record { size = b .size ∙ a .size; cell = cell }
+  where
+    cell : (k : ℕ) → getD after k 0 ≡ cond (among from to k) (new k) (getD before k 0)
+    cell k = elim (decLt k mid) [
+      | yes l ↦ b .cell k ∙ rw (lt-leb mid k l) (a .cell k ∙ rw (lt-ltb k mid l, lt-ltb k to (omega arith)))
+      | no l ↦ elim (decLt k to) [
+        | yes m ↦ b .cell k ∙ rw (le-leb mid k (omega arith), le-leb from k (omega arith), lt-ltb k to m)
+        | no m ↦ b .cell k ∙ rw (le-ltb k to (omega arith), and-false (leb mid k), and-false (leb from k)) (a .cell k ∙ rw (le-ltb k mid (omega arith), and-false (leb from k)))
+      ]
+    ]
+
+-- eight cells stored one after the other
+pub changed-block : (c : ℕ) (new : ℕ → ℕ) (l : List ℕ) → c + 8 ≤ length l → Changed c (c + 8) new l (set (set (set (set (set (set (set (set l c (new c)) (c + 1) (new (c + 1))) (c + 2) (new (c + 2))) (c + 3) (new (c + 3))) (c + 4) (new (c + 4))) (c + 5) (new (c + 5))) (c + 6) (new (c + 6))) (c + 7) (new (c + 7)))
+changed-block c new l h = next 7 _ (omega arith) (next 6 _ (omega arith) (next 5 _ (omega arith) (next 4 _ (omega arith) (next 3 _ (omega arith) (next 2 _ (omega arith) (next 1 _ (omega arith) (changed-next c new l c (omega arith) (omega arith) l (changed-none c new l))))))))
+  where
+    next : (i : ℕ) (m : List ℕ) → i < 8 → Changed c (c + i) new l m → Changed c (c + suc i) new l (set m (c + i) (new (c + i)))
+    next i m b w = let e : c + suc i ≡ c + i + 1 = omega arith in rw e (changed-next c new l (c + i) (omega arith) (omega arith) m w)
 
 -- the copies from `from` up to c are current; then that of c is, or those of the 8 cells from c on are
 module _ (copies latest : List ℕ) (from : ℕ) where

@@ -1,4 +1,4 @@
--- `run::view::all_current` says whether the copies of a range are all current: none of them is stale.
+-- `all_current` says whether the copies of a range are all current: none of them is stale.
 use Rattle.view.proofs.Views.{no-stale}
 use borrow.Author.Needs.{needs}
 use Rattle.view.proofs.all_current.Statement.{statement}

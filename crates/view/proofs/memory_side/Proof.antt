@@ -1,4 +1,4 @@
--- `run::view::memory_side` answers 23 or 24, or gives the side: the host where all its cells are current, else the card.
+-- `memory_side` answers 23 or 24, or gives the side: the host where all its cells are current, else the card.
 use mathlib.Core.Path.{_≡_, sym, _∙_}
 use mathlib.Core.Bool.{true, false}
 use Prim.Native.Nat.{min}

@@ -1,4 +1,4 @@
--- `run::view::memory_view` gives the part of the host's memory or of the card's, or none.
+-- `memory_view` gives the part of the host's memory or of the card's, or none.
 use mathlib.Core.Path.{_≡_, sym, _∙_}
 use Rattle.model.specs.declared.Verdict.the-variants.{Accepted}
 use Rattle.model.proofs.Rows.{turned}

@@ -1,4 +1,4 @@
--- `run::view::memory_view_answer` answers accepted, 23 or 24.
+-- `memory_view_answer` answers accepted, 23 or 24.
 use Rattle.view.proofs.Views.{answer-of}
 use borrow.Author.Needs.{needs}
 use Rattle.view.proofs.memory_view_answer.Statement.{statement}

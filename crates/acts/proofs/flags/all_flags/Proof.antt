@@ -1,4 +1,4 @@
--- `run::flags::all_flags` gives the flags of so many arrays, all set: 2 ^ n - 1.
+-- `flags::all_flags` gives the flags of so many arrays, all set: 2 ^ n - 1.
 use mathlib.Core.Path.{sym}
 use native.Mathlib.Omega.{arith}
 use lib.Pow.{pow-pos, pow-mono}

@@ -1,4 +1,4 @@
--- `run::flags::flag_set` says whether an array's flag is set.
+-- `flags::flag_set` says whether an array's flag is set.
 use Rattle.acts.proofs.Masks.{shifted, tested}
 use borrow.Author.Needs.{needs}
 use Rattle.acts.proofs.flags.flag_set.Statement.{statement}

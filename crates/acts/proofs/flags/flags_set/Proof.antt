@@ -1,4 +1,4 @@
--- `run::flags::flags_set` gives how many flags are set.
+-- `flags::flags_set` gives how many flags are set.
 use Rattle.acts.proofs.Masks.{counted}
 use Rattle.acts.proofs.flags.flags_set.Statement.{statement}
 use Rattle.acts.proofs.flags.flags_set.Tie as tie

@@ -1,4 +1,4 @@
--- `run::flags::with_flag` sets an array's flag and leaves the others.
+-- `flags::with_flag` sets an array's flag and leaves the others.
 use Rattle.acts.proofs.Masks.{shifted, added}
 use borrow.Author.Needs.{needs}
 use Rattle.acts.proofs.flags.with_flag.Statement.{statement}

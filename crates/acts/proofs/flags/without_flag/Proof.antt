@@ -1,4 +1,4 @@
--- `run::flags::without_flag` clears an array's flag and leaves the others.
+-- `flags::without_flag` clears an array's flag and leaves the others.
 use Rattle.acts.proofs.Masks.{shifted, cleared}
 use borrow.Author.Needs.{needs}
 use Rattle.acts.proofs.flags.without_flag.Statement.{statement}

@@ -1,4 +1,4 @@
--- `run::memories::blocks_current` says up to which cell a range is current. The invariant: it is up to c.
+-- `memories::blocks_current` says up to which cell a range is current. The invariant: it is up to c.
 use mathlib.Core.Path.{sym, _∙_}
 use Prim.Native.Nat.{_-_}
 use borrow.Author.Tests.{not-false}

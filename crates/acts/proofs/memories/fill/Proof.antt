@@ -1,4 +1,4 @@
--- `run::memories::fill` puts a stamp in the cells of a range. The invariant: the cells from `from` up to c hold it, and every other is as it was.
+-- `memories::fill` puts a stamp in the cells of a range. The invariant: the cells from `from` up to c hold it, and every other is as it was.
 use mathlib.Core.Path.{_≡_}
 use Prim.Native.Nat.{ℕ, _-_, _≤_}
 use native.Mathlib.Omega.{arith}

@@ -1,4 +1,4 @@
--- `run::memories::first_stale` gives the first stale copy of a range. The invariant: the copies from `from` up to c are current.
+-- `memories::first_stale` gives the first stale copy of a range. The invariant: the copies from `from` up to c are current.
 use mathlib.Core.Path.{_≡_}
 use Prim.Native.Nat.{_-_}
 use native.Mathlib.Omega.{arith}
