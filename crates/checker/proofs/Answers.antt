@@ -33,10 +33,10 @@ use Rattle.statuses.proofs.Statuses.{index-below, index-one}
 use Rattle.checker.proofs.Classes.{stop-alike}
 
 -- the set of the status at the start
-abbrev Begins : ℕ → Type 0
+abbrev pub Begins : ℕ → Type 0
 Begins set = (i : ℕ) → i < statuses → bit set i ≡ eqb i 10
 
-start-in : (set : ℕ) → Begins set → (u : Status) → In set u ↔ (u ≡ at-start)
+pub start-in : (set : ℕ) → Begins set → (u : Status) → In set u ↔ (u ≡ at-start)
 start-in set b u = (λ e. index-one u at-start (eqb-true _ 10 (sym (b (index u) (index-below u)) ∙ e)), λ e. rw e (b 10 (omega arith)))
 
 -- what is found from it is the lowest stop

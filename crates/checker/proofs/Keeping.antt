@@ -1,7 +1,7 @@
 -- The rows that a walk keeps, and what is known of a row that it finds.
 use Prim.Native.Nat.{ℕ, _+_, _*_, _/_, _%_, _≤_, _<_}
 use mathlib.Core.Path.{_≡_, sym, _∙_}
-use mathlib.Core.Logic.{inl, inr}
+use mathlib.Core.Logic.{inl}
 use mathlib.Core.List.{List}
 use native.Nat.{ℕᴺ-discrete}
 use native.Mathlib.Omega.{arith}
@@ -18,7 +18,7 @@ use Rattle.statuses.specs.declared.acts.Found.{Found}
 use Rattle.statuses.specs.Inner.Sets.{statuses, index, bit, In, Union}
 use Rattle.checker.specs.Inner.Ways.{Kept, Room, Exact, Body, nest, Passed}
 use Rattle.statuses.proofs.Statuses.{index-below}
-use Rattle.checker.proofs.Ways.{Found-in, ran-branch}
+use Rattle.checker.proofs.Ways.{Found-in, ran-from, ran-branch}
 
 module _ (f : List ℕ) where
   -- a table of zeros
@@ -81,15 +81,7 @@ module _ (f : List ℕ) (c class : ℕ) where
         back u e = o (index u) (index-below u) ∙ eq-eqb _ _ e
 
         ran : Found-in (arrays-of f) c (block-between f (r + 1) second) (λ u. index u ≡ w) low t
-        ran = record {
-          exits = λ v. (
-            λ e. let q = p .ran .exits v .0 e in (q .0, to (q .0) (q .1), q .2),
-            λ q. p .ran .exits v .1 (q .0, back (q .0) (q .1), q .2),
-          );
-          lower = omega (arith, p .ran .lower);
-          named = elim (p .ran .named) [ inl e ↦ inl (e ∙ el) | inr q ↦ inr (q .0, to (q .0) (q .1), q .2) ];
-          least = λ u n e s. p .ran .least u n (back u e) s;
-        }
+        ran = rw (← el) (ran-from (λ u. (to u, back u)) (p .ran))
 
         past : (j : ℕ) → length rows ≤ j → _≡_ {A = ℕ} (getD (set rows (16 * r + w) y) j 0) 0
         past j l = List·getD-eq-default (set rows (16 * r + w) y) 0 (simp length-set l)

@@ -10,6 +10,7 @@ mod ahead;
 mod block;
 mod cells;
 mod fields;
+pub mod first_loop;
 mod loops;
 
 // The check of a plan file that opening has found to be o.
