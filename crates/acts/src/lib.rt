@@ -15,6 +15,10 @@ use crate::memories::fill;
 use crate::memories::first_stale;
 use model::Cell;
 use reading::Fields;
+use reading::kinds::MARK;
+use reading::kinds::NEED;
+use reading::kinds::READ;
+use reading::kinds::WRITE;
 
 pub mod flags;
 pub mod memories;
@@ -195,10 +199,10 @@ fn act_here(
     let kind = x.kind;
     let array = x.array;
     match kind {
-        1 => act_read(s, from, to, own, latest),
-        2 => act_write(s, from, to, own, latest),
-        5 => act_mark(s, array),
-        _ => act_move(s, kind == 4, array, from, to, own, other, latest),
+        READ => act_read(s, from, to, own, latest),
+        WRITE => act_write(s, from, to, own, latest),
+        MARK => act_mark(s, array),
+        _ => act_move(s, kind == NEED, array, from, to, own, other, latest),
     }
 }
 

@@ -8,6 +8,7 @@ use crate::fields::covers;
 use model::Array;
 use reading::Fields;
 use reading::first_arm;
+use reading::kinds::BRANCH;
 use reading::record_at;
 use reading::second_arm;
 
@@ -19,7 +20,7 @@ fn nearest(x: Fields, array: Array, offset: usize, r: usize, next: usize) -> usi
     requires { ⌜ r < 65536 ⌝ }
     ensures { λ n. ⌜ n ≡ nearest x (array .0) offset r next ⌝ }
 {
-    if 6 <= x.kind {
+    if BRANCH <= x.kind {
         if next < r + 1 + first_arm(x) + second_arm(x) {
             return r;
         }

@@ -9,6 +9,7 @@ ghost use Rattle.statuses.specs.Inner.Sets.{statuses, index, In};
 ghost use Rattle.checker.specs.Inner.Ways.{cell-at, Ready, Body, nest, Passed};
 use model::Array;
 use reading::first_arm;
+use reading::kinds::BRANCH;
 use reading::record_at;
 use reading::second_arm;
 use statuses::acts::Found;
@@ -142,7 +143,7 @@ fn nested(
     requires { ⌜ Ready (now plan) bodies (array .0) offset (now ahead) class (now rows) (start .low) × Body (now plan) r second × (second ≤ next) × (next ≤ record-count (now plan)) × Walkable (now plan) second next ⌝ }
     ensures { λ t. ⌜ Passed (now (plan .entry)) (cell-at (now (plan .entry)) (array .0) offset) class (nest kind r (block-between (now (plan .entry)) (r + 1) second) (block-between (now (plan .entry)) second next)) (In (start .set)) (start .low) (now (rows .exit)) t ⌝ }
 {
-    if kind == 6 {
+    if kind == BRANCH {
         let one = block(
             plan,
             bodies,
@@ -211,7 +212,7 @@ pub fn block(
     let mut r = ahead[from];
     while r < end {
         let x = record_at(plan, bodies, r);
-        if 6 <= x.kind {
+        if BRANCH <= x.kind {
             let second = r + 1 + first_arm(x);
             let next = second + second_arm(x);
             t = nested(

@@ -19,6 +19,8 @@ use model::Array;
 use model::Cell;
 use model::Record;
 use model::Verdict;
+use reading::kinds::COPY;
+use reading::kinds::STARTS;
 use reading::record_at;
 use statuses::acts::Found;
 use statuses::acts::NONE;
@@ -29,14 +31,14 @@ use statuses::sets::only;
 const PLACES: usize = 4097;
 
 // Marks each place where the cells of a record begin or end.
-fn marks(plan: &[u8], bodies: usize, records: usize, starts: &[u16; 33]) -> [u8; PLACES]
+fn marks(plan: &[u8], bodies: usize, records: usize, starts: &[u16; STARTS]) -> [u8; PLACES]
     requires { ⌜ Plain (now plan) bodies × (records ≡ record-count (now plan)) × Starts (now plan) (now starts) ⌝ }
     ensures { λ m. ⌜ Marked (now (plan .entry)) (record-count (now (plan .entry))) m ⌝ }
 {
     let mut m = [0u8; PLACES];
     for r in 0..records {
         let x = record_at(plan, bodies, r);
-        if x.kind <= 3 {
+        if x.kind <= COPY {
             let a = x.array as usize;
             let first = starts[a];
             m[(first + x.p) as usize] = 1;
@@ -134,7 +136,7 @@ fn answer_with(
     bodies: usize,
     records: usize,
     arrays: usize,
-    starts: &[u16; 33],
+    starts: &[u16; STARTS],
     rows: &mut [u32],
     ahead: &mut [usize],
 ) -> Verdict
@@ -168,7 +170,7 @@ pub fn answer(
     bodies: usize,
     records: usize,
     arrays: usize,
-    starts: &[u16; 33],
+    starts: &[u16; STARTS],
 ) -> Verdict
     requires { ⌜ Plain (now plan) bodies × (records ≡ record-count (now plan)) × (arrays ≡ array-count (now plan)) × Starts (now plan) (now starts) ⌝ }
     ensures { λ r. ⌜ Answers (plan-of (now (plan .entry))) r ⌝ }

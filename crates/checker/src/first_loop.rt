@@ -12,6 +12,8 @@ use crate::loops::fixed;
 use model::Array;
 use model::Verdict;
 use reading::first_arm;
+use reading::kinds::LOOP;
+use reading::kinds::PLAIN;
 use reading::record_at;
 use statuses::acts::Found;
 use statuses::acts::NONE;
@@ -81,12 +83,12 @@ pub fn after_turns(plan: &[u8], turns: usize) -> Turned
     let Verdict::Accepted = v else {
         return no_loop();
     };
-    if (o.kind != 2) | (o.records == 0) {
+    if (o.kind != PLAIN) | (o.records == 0) {
         return no_loop();
     }
     let bodies = o.offset as usize;
     let x = record_at(plan, bodies, 0);
-    if x.kind != 7 {
+    if x.kind != LOOP {
         return no_loop();
     }
     let mut rows = [0u32; 16384];

@@ -5,6 +5,7 @@ ghost use Rattle.checker.specs.Checking.{Checks};
 use cells::answer;
 use contents::Opened;
 use model::Verdict;
+use reading::kinds::PLAIN;
 
 mod ahead;
 mod block;
@@ -22,7 +23,7 @@ pub fn check_opened(plan: &[u8], o: Opened) -> Verdict
     let Verdict::Accepted = v else {
         return v;
     };
-    if o.kind != 2 {
+    if o.kind != PLAIN {
         return Verdict::Refused(11, 0);
     }
     let starts = o.array_starts;

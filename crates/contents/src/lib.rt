@@ -9,6 +9,15 @@ ghost use Rattle.contents.specs.Found.{nothing-found, found, found-by};
 use model::Verdict;
 use reading::byte;
 use reading::entry_at;
+use reading::kinds::DECLARED;
+use reading::kinds::MOST_ARRAYS;
+use reading::kinds::MOST_BODIES;
+use reading::kinds::MOST_CELLS;
+use reading::kinds::MOST_LENGTH;
+use reading::kinds::MOST_RECORDS;
+use reading::kinds::NAMES;
+use reading::kinds::PLAIN;
+use reading::kinds::STARTS;
 use reading::number_at;
 use sums::check_sums;
 
@@ -21,24 +30,24 @@ pub struct Opened {
     pub cells: u16,
     pub records: u16,
     pub offset: u16,
-    pub array_starts: [u16; 33],
-    pub body_starts: [u16; 33],
-    pub declarations: [u8; 32],
+    pub array_starts: [u16; STARTS],
+    pub body_starts: [u16; STARTS],
+    pub declarations: [u8; NAMES],
 }
 
 // What the arrays' entries give: number 4 or the cells, with the first cell of each array.
 pub struct Arrays {
     pub verdict: Verdict,
     pub cells: u16,
-    pub starts: [u16; 33],
+    pub starts: [u16; STARTS],
 }
 
 // What the bodies' entries give: number 5 or the records, with the first record and the declarations of each body.
 pub struct Bodies {
     pub verdict: Verdict,
     pub records: u16,
-    pub starts: [u16; 33],
-    pub declarations: [u8; 32],
+    pub starts: [u16; STARTS],
+    pub declarations: [u8; NAMES],
 }
 
 // Numbers 1 and 2.
@@ -52,10 +61,10 @@ pub fn header(plan: &[u8]) -> Verdict
     if plan.len() < 4 {
         return Verdict::Refused(1, 0);
     }
-    let fits = ((1 <= kind) & (kind <= 2))
-        & ((1 <= arrays) & (arrays <= 32))
-        & ((1 <= bodies) & (bodies <= 32))
-        & ((kind == 1) | (bodies == 1))
+    let fits = ((DECLARED <= kind) & (kind <= PLAIN))
+        & ((1 <= arrays) & (arrays <= MOST_ARRAYS))
+        & ((1 <= bodies) & (bodies <= MOST_BODIES))
+        & ((kind == DECLARED) | (bodies == 1))
         & (zero == 0);
     if !fits {
         return Verdict::Refused(2, 0);
@@ -71,13 +80,13 @@ pub fn array_entries(plan: &[u8]) -> Arrays
     ensures starts { λ r. ⌜ (r .verdict ≡ Verdict.Accepted → r .starts ≡ found (now (plan .entry)) .«array_starts») ⌝ }
 {
     let arrays = byte(plan, 1) as usize;
-    let mut starts = [0u16; 33];
+    let mut starts = [0u16; STARTS];
     let mut cells: u32 = 0;
     let mut a: usize = 0;
     while a < arrays {
         let n = number_at(plan, 4 + 2 * a);
         let total = cells + (n as u32);
-        if !((1 <= n) & (n <= 4096)) | (4096 < total) {
+        if !((1 <= n) & (n <= MOST_LENGTH)) | (MOST_CELLS < total) {
             return Arrays {
                 verdict: Verdict::Refused(4, a as u16),
                 cells: 0,
@@ -104,8 +113,8 @@ pub fn body_entries(plan: &[u8]) -> Bodies
     ensures declarations { λ r. ⌜ (r .verdict ≡ Verdict.Accepted → r .declarations ≡ found (now (plan .entry)) .declarations) ⌝ }
 {
     let bodies = byte(plan, 2) as usize;
-    let mut starts = [0u16; 33];
-    let mut declarations = [0u8; 32];
+    let mut starts = [0u16; STARTS];
+    let mut declarations = [0u8; NAMES];
     let mut records: u32 = 0;
     let mut b: usize = 0;
     while b < bodies {
@@ -114,7 +123,7 @@ pub fn body_entries(plan: &[u8]) -> Bodies
         let d = byte(plan, at + 2);
         let zero = byte(plan, at + 3);
         let total = records + (n as u32);
-        if !(zero == 0) | (n < (d as u16)) | ((b == 0) & !(d == 0)) | (1024 < total) {
+        if !(zero == 0) | (n < (d as u16)) | ((b == 0) & !(d == 0)) | (MOST_RECORDS < total) {
             return Bodies {
                 verdict: Verdict::Refused(5, b as u16),
                 records: 0,
@@ -165,9 +174,9 @@ pub fn nothing_found(v: Verdict) -> Opened
         cells: 0,
         records: 0,
         offset: 0,
-        array_starts: [0u16; 33],
-        body_starts: [0u16; 33],
-        declarations: [0u8; 32],
+        array_starts: [0u16; STARTS],
+        body_starts: [0u16; STARTS],
+        declarations: [0u8; NAMES],
     }
 }
 

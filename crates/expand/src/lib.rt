@@ -15,6 +15,9 @@ use format::open;
 use judge::judge_opened;
 use model::Verdict;
 use reading::byte;
+use reading::kinds::LARGEST;
+use reading::kinds::MOST_RECORDS;
+use reading::kinds::PLACES;
 use sizes::places;
 use writer::put_body;
 use writer::put_bytes;
@@ -23,7 +26,7 @@ use writer::put_entry;
 use writer::put_header;
 
 // The expansion's file: header and contents, then the records in the part behind them, then the check bytes.
-fn put_file(plan: &[u8], o: Opened, places: &[u32; 1025], out: &mut [u8], end: usize)
+fn put_file(plan: &[u8], o: Opened, places: &[u32; PLACES], out: &mut [u8], end: usize)
     requires { ⌜ DeclaredFile (now plan) × (o ≡ found (now plan)) × Places (now plan) (now places) × (end ≡ records-in (now plan) 0) × (place (now plan) end ≤ 1024) × (length (expansion-file (now plan)) ≤ length (now out)) ⌝ }
     ensures { λ _. ⌜ now (out .exit) ≡ over (expansion-file (now (plan .entry))) (now (out .entry)) ⌝ }
 {
@@ -51,7 +54,7 @@ pub fn expand_judged(plan: &[u8], o: Opened, out: &mut [u8], answer: Verdict) ->
     let starts = o.body_starts;
     let end = starts[1] as usize;
     let records = places[end] as usize;
-    if 1024 < records {
+    if LARGEST < records {
         return Verdict::Refused(16, 0);
     }
     let arrays = o.arrays as usize;
@@ -109,7 +112,7 @@ pub fn expansion_length(plan: &[u8]) -> Length
         return no_length(answer);
     };
     let total = expansion_records(plan, o);
-    if 1024 < total {
+    if MOST_RECORDS < total {
         return no_length(Verdict::Refused(16, 0));
     }
     Length {

@@ -6,6 +6,8 @@ use contents::Opened;
 use format::open;
 use model::Verdict;
 use passes::all_passes;
+use reading::kinds::DECLARED;
+use reading::kinds::NAMES;
 
 mod passes;
 mod permits;
@@ -23,8 +25,8 @@ pub struct Extent {
 // What the declarations of a pass give: number 12, or kind and side of each array's declaration, 0 and 0 where it has none.
 pub struct Declared {
     pub verdict: Verdict,
-    pub kinds: [u8; 32],
-    pub sides: [u8; 32],
+    pub kinds: [u8; NAMES],
+    pub sides: [u8; NAMES],
 }
 
 // Judges a plan file that opening has found to be o.
@@ -36,7 +38,7 @@ pub fn judge_opened(plan: &[u8], o: Opened) -> Verdict
     let Verdict::Accepted = v else {
         return v;
     };
-    if o.kind != 1 {
+    if o.kind != DECLARED {
         return Verdict::Refused(11, 0);
     }
     all_passes(plan, o)

@@ -14,9 +14,10 @@ use crate::permits::uses;
 use crate::written::unmet;
 use contents::Opened;
 use model::Verdict;
+use reading::kinds::STARTS;
 
 // Numbers 12 to 14 by record, then 15, of one pass; `starts` has the first cell of each array.
-pub fn judge_pass(plan: &[u8], starts: &[u16; 33], e: Extent) -> Verdict
+pub fn judge_pass(plan: &[u8], starts: &[u16; STARTS], e: Extent) -> Verdict
     requires { ⌜ PassAt (now plan) e × (now starts ≡ found (now plan) .«array_starts») ⌝ }
     ensures { λ v. ⌜ v ≡ first (pass-rows (now (plan .entry)) (e .body)) ⌝ }
 {

@@ -9,6 +9,14 @@ use crate::Declared;
 use crate::Extent;
 use model::Verdict;
 use reading::Fields;
+use reading::kinds::COPY;
+use reading::kinds::MARK;
+use reading::kinds::NAMES;
+use reading::kinds::R;
+use reading::kinds::READ;
+use reading::kinds::RW;
+use reading::kinds::W;
+use reading::kinds::WRITE;
 use reading::record_at;
 
 // Number 12, and the declarations by array.
@@ -18,8 +26,8 @@ pub fn declarations(plan: &[u8], e: Extent) -> Declared
     ensures found { λ d. ⌜ (d .verdict ≡ Verdict.Accepted → ByArray (now (plan .entry)) e d) ⌝ }
 {
     let bodies = e.bodies;
-    let mut kinds = [0u8; 32];
-    let mut sides = [0u8; 32];
+    let mut kinds = [0u8; NAMES];
+    let mut sides = [0u8; NAMES];
     let mut i: usize = 0;
     while i < e.declarations {
         let r = e.from + i;
@@ -47,7 +55,7 @@ pub fn declarations(plan: &[u8], e: Extent) -> Declared
 pub fn permitted(x: Fields, kind: u8, side: u8) -> bool
     ensures { λ r. ⌜ r ≡ permitted x kind side ⌝ }
 {
-    (((x.kind == 1) & (kind == 16)) | ((x.kind == 2) & (kind == 17)) | (kind == 18))
+    (((x.kind == READ) & (kind == R)) | ((x.kind == WRITE) & (kind == W)) | (kind == RW))
         & (side == x.side)
 }
 
@@ -58,10 +66,10 @@ pub fn use_tests(r: usize, x: Fields, kind: u8, side: u8) -> Verdict
 {
     let place = r as u16;
     let declared = permitted(x, kind, side);
-    if ((1 <= x.kind) & (x.kind <= 2)) & !declared {
+    if ((READ <= x.kind) & (x.kind <= WRITE)) & !declared {
         return Verdict::Refused(13, place);
     }
-    if (3 <= x.kind) & (x.kind <= 5) {
+    if (COPY <= x.kind) & (x.kind <= MARK) {
         return Verdict::Refused(14, place);
     }
     Verdict::Accepted

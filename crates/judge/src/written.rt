@@ -10,10 +10,12 @@ use crate::Extent;
 use marks::mark_written;
 use marks::met;
 use model::Verdict;
+use reading::kinds::CELLS;
+use reading::kinds::STARTS;
 use reading::record_at;
 
 // Number 15: the lowest declaration of a pass that is not met.
-pub fn unmet(plan: &[u8], starts: &[u16; 33], e: Extent, d: Declared) -> Verdict
+pub fn unmet(plan: &[u8], starts: &[u16; STARTS], e: Extent, d: Declared) -> Verdict
     requires { ⌜ PassAt (now plan) e × ByArray (now plan) e d × Tables (now plan) (now starts) (d .sides) ⌝ }
     ensures { λ v. ⌜ v ≡ first (each (declarations-in (now (plan .entry)) (e .body)) (w-rows (now (plan .entry)) (e .body))) ⌝ }
 {
@@ -21,7 +23,7 @@ pub fn unmet(plan: &[u8], starts: &[u16; 33], e: Extent, d: Declared) -> Verdict
     let until = e.from + e.declarations;
     let end = e.from + e.records;
     let sides = d.sides;
-    let mut set = [false; 4096];
+    let mut set = [false; CELLS];
     mark_written(plan, bodies, starts, &sides, &mut set, until, end);
     let mut i: usize = 0;
     while i < e.declarations {

@@ -18,6 +18,8 @@ use place::Place;
 use place::choose;
 use place::settle;
 use reading::Fields;
+use reading::kinds::BRANCH;
+use reading::kinds::COPY;
 use reading::record_at;
 
 pub mod place;
@@ -114,7 +116,7 @@ fn first_cell(x: Fields, first: u16) -> usize
     requires { ⌜ from-of x first < 65536 ⌝ }
     ensures { λ r. ⌜ r ≡ from-of x first ⌝ }
 {
-    if x.kind <= 3 {
+    if x.kind <= COPY {
         return (first + x.p) as usize;
     }
     first as usize
@@ -125,7 +127,7 @@ fn next_cell(x: Fields, first: u16, next: u16) -> usize
     requires { ⌜ to-of x first next < 65536 ⌝ }
     ensures { λ r. ⌜ r ≡ to-of x first next ⌝ }
 {
-    if x.kind <= 3 {
+    if x.kind <= COPY {
         return (first + x.q) as usize;
     }
     next as usize
@@ -174,7 +176,7 @@ pub fn step(
         return over(m, Verdict::Accepted, t);
     }
     let x = record_at(plan, m.bodies, p.at);
-    if 6 <= x.kind {
+    if BRANCH <= x.kind {
         return Stepped {
             machine: test(m, x, choices, room),
             tally: t,

@@ -7,6 +7,7 @@ ghost use lib.ListN.{length};
 ghost use Rattle.machine.specs.Inner.Standing.{spot, started, entered, skipped, into, left-arm, settled, chosen};
 use reading::Fields;
 use reading::first_arm;
+use reading::kinds::BRANCH;
 use reading::second_arm;
 
 // What is lent to the step besides the memories: entry a is the first cell of array a, and after the last array the number of cells; entry ENDS + d is the
@@ -118,7 +119,7 @@ pub fn choose(p: Place, x: Fields, choice: u8, room: &mut [u16]) -> Place
     let at = p.at;
     let second = at + 1 + first_arm(x);
     let next = second + second_arm(x);
-    if x.kind == 6 {
+    if x.kind == BRANCH {
         if choice == 0 {
             return into_arm(p, second, next, next, room);
         }

@@ -10,11 +10,17 @@ ghost use Rattle.marks.specs.Inner.Marks.{marked, Adds, all-marked, Tabl
 use reading::Fields;
 use reading::cells_of;
 use reading::first_arm;
+use reading::kinds::BRANCH;
+use reading::kinds::CELLS;
+use reading::kinds::NAMES;
+use reading::kinds::STARTS;
+use reading::kinds::W;
+use reading::kinds::WRITE;
 use reading::record_at;
 use reading::second_arm;
 
 // Marks the cells from `from` up to `end`.
-pub fn mark(set: &mut [bool; 4096], from: usize, end: usize)
+pub fn mark(set: &mut [bool; CELLS], from: usize, end: usize)
     requires { ⌜ (from ≤ end) × (end ≤ 4096) × (length (now set) ≡ 4096) ⌝ }
     ensures { λ _. ⌜ Adds (now (set .entry)) (now (set .exit)) (λ (c : ℕ). leb from c && ltb c end) ⌝ }
 {
@@ -26,23 +32,23 @@ pub fn mark(set: &mut [bool; 4096], from: usize, end: usize)
 }
 
 // Marks the cells that two sets have both.
-pub fn mark_both(set: &mut [bool; 4096], one: &[bool; 4096], two: &[bool; 4096])
+pub fn mark_both(set: &mut [bool; CELLS], one: &[bool; CELLS], two: &[bool; CELLS])
     requires { ⌜ length (now set) ≡ 4096 ⌝ }
     ensures { λ _. ⌜ Adds (now (set .entry)) (now (set .exit)) (λ (c : ℕ). marked (now (one .entry)) c && marked (now (two .entry)) c) ⌝ }
 {
     let mut c: usize = 0;
-    while c < 4096 {
+    while c < CELLS {
         set[c] = set[c] | (one[c] & two[c]);
         c += 1;
     }
 }
 
 // Marks the cells of a write with the fields x, if on the side for its array; of another record none.
-pub fn mark_record(starts: &[u16; 33], sides: &[u8; 32], set: &mut [bool; 4096], x: Fields)
+pub fn mark_record(starts: &[u16; STARTS], sides: &[u8; NAMES], set: &mut [bool; CELLS], x: Fields)
     requires { ⌜ (length (now set) ≡ 4096) × (x .kind ≡ 2 → (x .array < 32) × (x .p ≤ x .q) × (getD (now starts) (x .array) 0 + x .q ≤ 4096)) ⌝ }
     ensures { λ _. ⌜ Adds (now (set .entry)) (now (set .exit)) (hits (now (starts .entry)) (now (sides .entry)) x) ⌝ }
 {
-    if x.kind != 2 {
+    if x.kind != WRITE {
         return;
     }
     let a = x.array as usize;
@@ -56,9 +62,9 @@ pub fn mark_record(starts: &[u16; 33], sides: &[u8; 32], set: &mut [bool; 4096],
 pub fn mark_written(
     plan: &[u8],
     bodies: usize,
-    starts: &[u16; 33],
-    sides: &[u8; 32],
-    set: &mut [bool; 4096],
+    starts: &[u16; STARTS],
+    sides: &[u8; NAMES],
+    set: &mut [bool; CELLS],
     r: usize,
     end: usize,
 )
@@ -70,9 +76,9 @@ pub fn mark_written(
         let x = record_at(plan, bodies, at);
         let second = at + 1 + first_arm(x);
         let next = second + second_arm(x);
-        if x.kind == 6 {
-            let mut one = [false; 4096];
-            let mut two = [false; 4096];
+        if x.kind == BRANCH {
+            let mut one = [false; CELLS];
+            let mut two = [false; CELLS];
             mark_written(plan, bodies, starts, sides, &mut one, at + 1, second);
             mark_written(plan, bodies, starts, sides, &mut two, second, next);
             mark_both(set, &one, &two);
@@ -84,7 +90,7 @@ pub fn mark_written(
 }
 
 // Whether all cells from `from` up to `end` are marked.
-pub fn all_marked(set: &[bool; 4096], from: usize, end: usize) -> bool
+pub fn all_marked(set: &[bool; CELLS], from: usize, end: usize) -> bool
     requires { ⌜ end ≤ 4096 ⌝ }
     ensures { λ r. ⌜ r ≡ all-marked (now (set .entry)) from (end - from) ⌝ }
 {
@@ -99,11 +105,11 @@ pub fn all_marked(set: &[bool; 4096], from: usize, end: usize) -> bool
 }
 
 // Whether a declaration with the fields x is met where the marked cells are written: a W is if all cells of its array are marked.
-pub fn met(starts: &[u16; 33], set: &[bool; 4096], x: Fields) -> bool
+pub fn met(starts: &[u16; STARTS], set: &[bool; CELLS], x: Fields) -> bool
     requires { ⌜ (x .array < 32) × (getD (now starts) (x .array) 0 ≤ getD (now starts) (x .array + 1) 0) × (getD (now starts) (x .array + 1) 0 ≤ 4096) ⌝ }
     ensures { λ m. ⌜ m ≡ met (now (starts .entry)) (now (set .entry)) x ⌝ }
 {
-    if x.kind != 17 {
+    if x.kind != W {
         return true;
     }
     let a = x.array as usize;

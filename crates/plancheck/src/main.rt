@@ -6,6 +6,7 @@ use console::input::ROOM;
 use console::input::read_plan;
 use console::page::finish;
 use model::Values;
+use reading::kinds::PLAIN;
 
 // What the line says.
 struct Line {
@@ -19,7 +20,7 @@ fn line_of(plan: &[u8]) -> Line
 {
     let o = format::open(plan);
     let kind = o.kind;
-    if kind == 2 {
+    if kind == PLAIN {
         let checked = checker::check(plan);
         return Line {
             kind: kind,

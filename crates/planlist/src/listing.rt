@@ -13,6 +13,7 @@ use console::page::numbered;
 use console::page::text;
 use contents::Opened;
 use format::body_view;
+use reading::kinds::DECLARED;
 
 // The line on the whole.
 fn heading(page: &mut Page, o: Opened) -> usize {
@@ -25,7 +26,7 @@ fn heading(page: &mut Page, o: Opened) -> usize {
 
 // Its beginning.
 fn plan_kind(page: &mut Page, kind: u8) -> usize {
-    if kind == 1 {
+    if kind == DECLARED {
         return text(page, 0, b"declared plan, ");
     }
     text(page, 0, b"plain plan, ")

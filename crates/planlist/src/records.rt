@@ -6,21 +6,32 @@ use console::page::number;
 use console::page::numbered;
 use console::page::text;
 use reading::Fields;
+use reading::kinds::BRANCH;
+use reading::kinds::CALL;
+use reading::kinds::COPY;
+use reading::kinds::LOOP;
+use reading::kinds::MARK;
+use reading::kinds::NEED;
+use reading::kinds::R;
+use reading::kinds::READ;
+use reading::kinds::RW;
+use reading::kinds::W;
+use reading::kinds::WRITE;
 
 // The name of a kind; a plan that opens has none of the last row.
 fn kind_name(page: &mut Page, at: usize, kind: u8) -> usize {
     match kind {
-        1 => text(page, at, b" read"),
-        2 => text(page, at, b" write"),
-        3 => text(page, at, b" copy to"),
-        4 => text(page, at, b" need"),
-        5 => text(page, at, b" mark"),
-        6 => text(page, at, b" branch"),
-        7 => text(page, at, b" loop"),
-        8 => text(page, at, b" call"),
-        16 => text(page, at, b" R"),
-        17 => text(page, at, b" W"),
-        18 => text(page, at, b" RW"),
+        READ => text(page, at, b" read"),
+        WRITE => text(page, at, b" write"),
+        COPY => text(page, at, b" copy to"),
+        NEED => text(page, at, b" need"),
+        MARK => text(page, at, b" mark"),
+        BRANCH => text(page, at, b" branch"),
+        LOOP => text(page, at, b" loop"),
+        CALL => text(page, at, b" call"),
+        R => text(page, at, b" R"),
+        W => text(page, at, b" W"),
+        RW => text(page, at, b" RW"),
         0 | 9..=15 | 19..=255 => at,
     }
 }
@@ -46,13 +57,13 @@ fn cells(page: &mut Page, at: usize, p: u16, q: u16) -> usize {
 fn fields(page: &mut Page, at: usize, x: Fields) -> usize {
     let kind = x.kind;
     match kind {
-        1 | 2 | 3 => {
+        READ | WRITE | COPY => {
             let at = on_array(page, at, x.side, x.array);
             cells(page, at, x.p, x.q)
         }
-        4 | 5 | 16 | 17 | 18 => on_array(page, at, x.side, x.array),
-        8 => numbered(page, at, b" body ", x.p as u64),
-        0 | 6 | 7 | 9..=15 | 19..=255 => at,
+        NEED | MARK | R | W | RW => on_array(page, at, x.side, x.array),
+        CALL => numbered(page, at, b" body ", x.p as u64),
+        0 | BRANCH | LOOP | 9..=15 | 19..=255 => at,
     }
 }
 
@@ -67,7 +78,7 @@ pub fn record_line(page: &mut Page, at: usize, level: usize, r: u16, x: Fields) 
 
 // The line that stands for the first arm of a branch or the arm of a loop, where it is empty.
 pub fn empty_line(page: &mut Page, at: usize, level: usize, x: Fields) -> usize {
-    if (6 <= x.kind) & (x.kind <= 7) & (x.p == 0) {
+    if (BRANCH <= x.kind) & (x.kind <= LOOP) & (x.p == 0) {
         let at = indent(page, at, level);
         return text(page, at, b"nothing\n");
     }

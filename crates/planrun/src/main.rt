@@ -11,6 +11,7 @@ use console::page::Page;
 use console::page::finish;
 use libc::STDERR_FILENO;
 use printing::report_lines;
+use reading::kinds::CELLS;
 use report::cell_count;
 use report::has_begun;
 use report::report_of;
@@ -97,9 +98,9 @@ fn arguments_fit(cells: Cells) -> bool {
 
 // What is printed of a plan, choices, and cells to view.
 fn answer(page: &mut Page, plan: &[u8], choices: &[u8], cells: Cells) -> usize {
-    let mut host = [0u64; 4096];
-    let mut card = [0u64; 4096];
-    let mut latest = [0u64; 4096];
+    let mut host = [0u64; CELLS];
+    let mut card = [0u64; CELLS];
+    let mut latest = [0u64; CELLS];
     let r = report_of(plan, choices, &mut host, &mut card, &mut latest);
     let begun = has_begun(r);
     let at = report_lines(page, r);

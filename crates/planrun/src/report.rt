@@ -6,10 +6,11 @@ ghost use Rattle.run.specs.Running.{lent};
 use model::Tally;
 use model::Values;
 use model::Verdict;
+use reading::kinds::CELLS;
 use run::End;
 
 // No plan has more cells.
-pub type Memory = [u64; 4096];
+pub type Memory = [u64; CELLS];
 
 // How a run ended; a refused one has not begun.
 pub enum Ending {
@@ -88,5 +89,5 @@ pub fn cell_count(plan: &[u8]) -> usize
 {
     let o = format::open(plan);
     let n = o.cells as usize;
-    if n < 4096 { n } else { 4096 }
+    if n < CELLS { n } else { CELLS }
 }

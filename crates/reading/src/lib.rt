@@ -4,6 +4,12 @@ ghost use Prim.Native.Nat.{_+_, _*_, _≤_, _<_};
 ghost use lib.ListN.{length, getD};
 ghost use Rattle.reading.specs.Bytes.{byte-at, u16-at, entry-at, bodies-at, fields-at, first-arm, second-arm};
 ghost use Rattle.reading.specs.Inner.Cells.{from-of, to-of};
+use kinds::BRANCH;
+use kinds::COPY;
+use kinds::LOOP;
+use kinds::STARTS;
+
+pub mod kinds;
 
 // A record's eight bytes.
 pub struct Fields {
@@ -67,7 +73,7 @@ pub fn first_arm(x: Fields) -> usize
     ensures arm { λ r. ⌜ r ≡ first-arm x ⌝ }
     ensures low { λ r. ⌜ r < 65536 ⌝ }
 {
-    if (6 <= x.kind) & (x.kind <= 7) {
+    if (BRANCH <= x.kind) & (x.kind <= LOOP) {
         x.p as usize
     } else {
         0
@@ -79,7 +85,7 @@ pub fn second_arm(x: Fields) -> usize
     ensures arm { λ r. ⌜ r ≡ second-arm x ⌝ }
     ensures low { λ r. ⌜ r < 65536 ⌝ }
 {
-    if x.kind == 6 { x.q as usize } else { 0 }
+    if x.kind == BRANCH { x.q as usize } else { 0 }
 }
 
 // The cells of a record: the first, and the one after the last.
@@ -97,7 +103,7 @@ fn place(n: u16) -> usize
 
 // Which cells a record with the fields x covers: those from P up to Q of its array for kinds 1 to 3, else the whole array. `starts` has the first cell
 // of each array, and after the last array the number of cells.
-pub fn cells_of(x: Fields, starts: &[u16; 33]) -> Span
+pub fn cells_of(x: Fields, starts: &[u16; STARTS]) -> Span
     requires { ⌜ x .array < 32 ⌝ }
     ensures from { λ s. ⌜ s .from ≡ from-of x (getD (now (starts .entry)) (x .array) 0) ⌝ }
     ensures to { λ s. ⌜ s .to ≡ to-of x (getD (now (starts .entry)) (x .array) 0) (getD (now (starts .entry)) (x .array + 1) 0) ⌝ }
@@ -105,7 +111,7 @@ pub fn cells_of(x: Fields, starts: &[u16; 33]) -> Span
     let a = x.array as usize;
     let first = place(starts[a]);
     let next = place(starts[a + 1]);
-    if x.kind <= 3 {
+    if x.kind <= COPY {
         return Span {
             from: first + place(x.p),
             to: first + place(x.q),

@@ -14,6 +14,20 @@ use model::Verdict;
 use reading::Fields;
 use reading::byte;
 use reading::first_arm;
+use reading::kinds::BRANCH;
+use reading::kinds::CALL;
+use reading::kinds::COPY;
+use reading::kinds::DECLARED_DEPTH;
+use reading::kinds::LOOP;
+use reading::kinds::MARK;
+use reading::kinds::NEED;
+use reading::kinds::PLAIN;
+use reading::kinds::PLAIN_DEPTH;
+use reading::kinds::R;
+use reading::kinds::READ;
+use reading::kinds::RW;
+use reading::kinds::W;
+use reading::kinds::WRITE;
 use reading::number_at;
 use reading::record_at;
 use reading::second_arm;
@@ -43,11 +57,11 @@ pub fn fields_fit(plan: &[u8], x: Fields) -> bool
     let last_zero = x.zero == 0;
     let kind = x.kind;
     match kind {
-        1 | 2 | 3 => on_side & on_array & last_zero & (x.p < x.q) & (x.q <= size),
-        4 | 5 | 16 | 17 | 18 => on_side & on_array & last_zero & (x.p == 0) & (x.q == 0),
-        6 => no_array & last_zero,
-        7 => no_array & last_zero & (x.q == 0),
-        8 => no_array & last_zero & (x.q == 0) & (1 <= x.p) & (x.p < (bodies as u16)),
+        READ | WRITE | COPY => on_side & on_array & last_zero & (x.p < x.q) & (x.q <= size),
+        NEED | MARK | R | W | RW => on_side & on_array & last_zero & (x.p == 0) & (x.q == 0),
+        BRANCH => no_array & last_zero,
+        LOOP => no_array & last_zero & (x.q == 0),
+        CALL => no_array & last_zero & (x.q == 0) & (1 <= x.p) & (x.p < (bodies as u16)),
         0 | 9..=15 | 19..=255 => true,
     }
 }
@@ -58,23 +72,27 @@ pub fn kind_allowed(plan: &[u8], body: usize, until: usize, r: usize, x: Fields)
     ensures { λ a. ⌜ a ≡ allowed (now (plan .entry)) body r x ⌝ }
 {
     let kind = x.kind;
-    if byte(plan, 0) == 2 {
-        return (1 <= kind) & (kind <= 7);
+    if byte(plan, 0) == PLAIN {
+        return (READ <= kind) & (kind <= LOOP);
     }
     if body == 0 {
-        return (6 <= kind) & (kind <= 8);
+        return (BRANCH <= kind) & (kind <= CALL);
     }
     if r < until {
-        return (16 <= kind) & (kind <= 18);
+        return (R <= kind) & (kind <= RW);
     }
-    (1 <= kind) & (kind <= 7)
+    (READ <= kind) & (kind <= LOOP)
 }
 
 // How many branches and loops one may stand inside.
 pub fn deepest(plan: &[u8]) -> usize
     ensures { λ r. ⌜ r ≡ deepest (now (plan .entry)) ⌝ }
 {
-    if byte(plan, 0) == 2 { 15 } else { 7 }
+    if byte(plan, 0) == PLAIN {
+        PLAIN_DEPTH
+    } else {
+        DECLARED_DEPTH
+    }
 }
 
 // Numbers 8, 9 and 10 of record r, which has the fields x.
@@ -99,7 +117,7 @@ pub fn record_tests(
     }
     let next = r + 1 + first_arm(x) + second_arm(x);
     let limit = deepest(plan);
-    let nests = (6 <= x.kind) & (x.kind <= 7);
+    let nests = (BRANCH <= x.kind) & (x.kind <= LOOP);
     if (end < next) | (nests & (limit < depth)) {
         return Verdict::Refused(10, place);
     }

@@ -26,6 +26,9 @@ use machine::step_lent;
 use model::Record;
 use model::Tally;
 use model::Verdict;
+use reading::kinds::CHOICES;
+use reading::kinds::PLAIN;
+use reading::kinds::STARTS;
 
 // Stands for "never".
 const NEVER: u64 = 18446744073709551615;
@@ -46,14 +49,14 @@ pub fn ready(
     let Verdict::Accepted = v else {
         return v;
     };
-    if o.kind != 2 {
+    if o.kind != PLAIN {
         return Verdict::Refused(11, 0);
     }
     let n = o.cells as usize;
     if (host.len() < n) | (card.len() < n) | (latest.len() < n) {
         return Verdict::Refused(19, 0);
     }
-    if 65536 < choices.len() {
+    if CHOICES < choices.len() {
         return Verdict::Refused(20, 0);
     }
     Verdict::Accepted
@@ -72,7 +75,7 @@ fn write_start(host: &mut [u64], card: &mut [u64], latest: &mut [u64], cells: us
 }
 
 // Puts the first cells of the arrays at the front of the room.
-fn put_starts(starts: &[u16; 33], room: &mut [u16])
+fn put_starts(starts: &[u16; STARTS], room: &mut [u16])
     requires { ⌜ length (now room) ≡ 65 ⌝ }
     ensures { λ _. ⌜ Fronted (now (starts .entry)) (now (room .exit)) ⌝ }
 {

@@ -8,17 +8,18 @@ ghost use Rattle.contents.specs.Found.{found};
 ghost use Rattle.sizes.specs.Inner.Sizes.{DeclaredFile, given-by, declared-from, called, record-size, PassSizes, Places};
 use contents::Opened;
 use reading::Fields;
+use reading::kinds::CALL;
+use reading::kinds::NAMES;
+use reading::kinds::PLACES;
+use reading::kinds::R;
+use reading::kinds::W;
 use reading::record_at;
 
 // How many records a declaration gives.
 pub fn given_size(x: Fields) -> u32
     ensures { λ r. ⌜ r ≡ size (given-by x) ⌝ }
 {
-    if (x.kind == 16) | (x.kind == 17) {
-        1
-    } else {
-        2
-    }
+    if (x.kind == R) | (x.kind == W) { 1 } else { 2 }
 }
 
 // How many records the declarations from record `from` on give, so many of them, in a file whose bodies begin at `bodies`.
@@ -50,12 +51,12 @@ pub fn pass_size(plan: &[u8], o: Opened, b: usize) -> u32
 }
 
 // The same for each pass.
-pub fn pass_sizes(plan: &[u8], o: Opened) -> [u32; 32]
+pub fn pass_sizes(plan: &[u8], o: Opened) -> [u32; NAMES]
     requires { ⌜ DeclaredFile (now plan) × (o ≡ found (now plan)) ⌝ }
     ensures { λ r. ⌜ PassSizes (now (plan .entry)) r ⌝ }
 {
     let bodies = o.bodies as usize;
-    let mut sizes = [0u32; 32];
+    let mut sizes = [0u32; NAMES];
     let mut b: usize = 1;
     while b < bodies {
         sizes[b] = pass_size(plan, o, b);
@@ -65,12 +66,12 @@ pub fn pass_sizes(plan: &[u8], o: Opened) -> [u32; 32]
 }
 
 // How many records stand in the expansion for record r of body 0.
-pub fn record_size(plan: &[u8], bodies: usize, sizes: &[u32; 32], r: usize) -> u32
+pub fn record_size(plan: &[u8], bodies: usize, sizes: &[u32; NAMES], r: usize) -> u32
     requires { ⌜ DeclaredFile (now plan) × (bodies ≡ bodies-at (now plan)) × PassSizes (now plan) (now sizes) × (r < records-in (now plan) 0) ⌝ }
     ensures { λ n. ⌜ n ≡ record-size (now (plan .entry)) r ⌝ }
 {
     let x = record_at(plan, bodies, r);
-    if x.kind == 8 {
+    if x.kind == CALL {
         let p = x.p as usize;
         return sizes[p];
     }
@@ -78,7 +79,7 @@ pub fn record_size(plan: &[u8], bodies: usize, sizes: &[u32; 32], r: usize) -> u
 }
 
 // Where each record of body 0 begins in the expansion, counted in records; the entry after the last has the expansion's size.
-pub fn places(plan: &[u8], o: Opened) -> [u32; 1025]
+pub fn places(plan: &[u8], o: Opened) -> [u32; PLACES]
     requires { ⌜ DeclaredFile (now plan) × (o ≡ found (now plan)) ⌝ }
     ensures { λ t. ⌜ Places (now (plan .entry)) t ⌝ }
 {
@@ -86,7 +87,7 @@ pub fn places(plan: &[u8], o: Opened) -> [u32; 1025]
     let starts = o.body_starts;
     let end = starts[1] as usize;
     let sizes = pass_sizes(plan, o);
-    let mut places = [0u32; 1025];
+    let mut places = [0u32; PLACES];
     let mut n: u32 = 0;
     let mut r: usize = 0;
     while r < end {

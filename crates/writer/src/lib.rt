@@ -14,6 +14,13 @@ ghost use Rattle.writer.specs.Inner.Pieces.{DeclarationsAt, over, bytes-
 use contents::Opened;
 use reading::Fields;
 use reading::first_arm;
+use reading::kinds::CALL;
+use reading::kinds::MARK;
+use reading::kinds::NEED;
+use reading::kinds::PLACES;
+use reading::kinds::PLAIN;
+use reading::kinds::R;
+use reading::kinds::W;
 use reading::record_at;
 use reading::second_arm;
 use sums::check_sums;
@@ -61,15 +68,15 @@ pub fn put_declaration(out: &mut [u8], x: Fields) -> usize
 {
     let side = x.side;
     let array = x.array;
-    if x.kind == 17 {
-        put_given(out, 5, side, array);
+    if x.kind == W {
+        put_given(out, MARK, side, array);
         return 1;
     }
-    put_given(out, 4, side, array);
-    if x.kind == 16 {
+    put_given(out, NEED, side, array);
+    if x.kind == R {
         return 1;
     }
-    put_given(&mut out[8..], 5, side, array);
+    put_given(&mut out[8..], MARK, side, array);
     2
 }
 
@@ -127,12 +134,12 @@ pub fn put_call(plan: &[u8], o: Opened, out: &mut [u8], b: usize)
 }
 
 // What stands for record r of body 0: a call's records, or a branch or a loop with its arm counts grown to fit.
-pub fn put_piece(plan: &[u8], o: Opened, places: &[u32; 1025], out: &mut [u8], r: usize)
+pub fn put_piece(plan: &[u8], o: Opened, places: &[u32; PLACES], out: &mut [u8], r: usize)
     requires { ⌜ DeclaredFile (now plan) × (o ≡ found (now plan)) × Places (now plan) (now places) × (r < records-in (now plan) 0) × (place (now plan) (records-in (now plan) 0) ≤ 1024) × (8 * record-size (now plan) r ≤ length (now out)) ⌝ }
     ensures { λ _. ⌜ now (out .exit) ≡ over (bytes-of (piece (now (plan .entry)) r)) (now (out .entry)) ⌝ }
 {
     let x = record_at(plan, o.offset as usize, r);
-    if x.kind == 8 {
+    if x.kind == CALL {
         put_call(plan, o, out, x.p as usize);
         return;
     }
@@ -154,7 +161,7 @@ pub fn put_piece(plan: &[u8], o: Opened, places: &[u32; 1025], out: &mut [u8], r
 }
 
 // All records of the expansion.
-pub fn put_body(plan: &[u8], o: Opened, places: &[u32; 1025], out: &mut [u8], end: usize)
+pub fn put_body(plan: &[u8], o: Opened, places: &[u32; PLACES], out: &mut [u8], end: usize)
     requires { ⌜ DeclaredFile (now plan) × (o ≡ found (now plan)) × Places (now plan) (now places) × (end ≡ records-in (now plan) 0) × (place (now plan) end ≤ 1024) × (8 * place (now plan) end ≤ length (now out)) ⌝ }
     ensures { λ _. ⌜ now (out .exit) ≡ over (bytes-of (pieces (now (plan .entry)) end)) (now (out .entry)) ⌝ }
 {
@@ -171,7 +178,7 @@ pub fn put_header(out: &mut [u8], arrays: u8)
     requires { ⌜ 4 ≤ length (now out) ⌝ }
     ensures { λ _. ⌜ now (out .exit) ≡ over (2 ∷ arrays ∷ 1 ∷ 0 ∷ []) (now (out .entry)) ⌝ }
 {
-    out[0] = 2;
+    out[0] = PLAIN;
     out[1] = arrays;
     out[2] = 1;
     out[3] = 0;
