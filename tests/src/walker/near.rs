@@ -68,6 +68,21 @@ impl Checker {
         self.block(plan, cell, 0..plan.records.len(), BTreeSet::from([START]), &mut Seen::default())
     }
 
+    /// So many turns of a loop's arm from the start, one after the other: the
+    /// statuses in which a cell can be then, and the lowest record that stopped it.
+    pub fn turned(
+        &self,
+        plan: &Plan,
+        cell: usize,
+        arm: Range<usize>,
+        turns: usize,
+    ) -> (BTreeSet<Status>, Option<usize>) {
+        let mut seen = Seen::default();
+        let turn = |now, _| self.block(plan, cell, arm.clone(), now, &mut seen);
+        let now = (0..turns).fold(BTreeSet::from([START]), turn);
+        (now, seen.stops.first().map(|stop| stop.record))
+    }
+
     fn block(
         &self,
         plan: &Plan,
