@@ -19,6 +19,7 @@ use model::Array;
 use model::Cell;
 use model::Record;
 use model::Verdict;
+use reading::cells_of;
 use reading::kinds::COPY;
 use reading::kinds::STARTS;
 use reading::record_at;
@@ -39,10 +40,11 @@ fn marks(plan: &[u8], bodies: usize, records: usize, starts: &[u16; STARTS]) -> 
     for r in 0..records {
         let x = record_at(plan, bodies, r);
         if x.kind <= COPY {
-            let a = x.array as usize;
-            let first = starts[a];
-            m[(first + x.p) as usize] = 1;
-            m[(first + x.q) as usize] = 1;
+            let cells = cells_of(x, starts);
+            let from = cells.from;
+            let to = cells.to;
+            m[from] = 1;
+            m[to] = 1;
         }
     }
     m

@@ -22,7 +22,7 @@ use Rattle.reading.proofs.Tables.{arrays-counted, array-length, next-cell}
 use Rattle.format.proofs.Walking.{opened-facts}
 use Rattle.format.proofs.Acts.{cells-fit, array-fits, by-kind}
 use Rattle.acts.specs.Inner.Acting.{CellsAt, ArrayAt, Spans}
-use Rattle.machine.specs.Inner.Standing.{from-of, to-of}
+use Rattle.reading.specs.Inner.Cells.{from-of, to-of}
 
 module _ (f : List ℕ) (bodies : ℕ) (w : Plain f bodies) (x : Fields) (fit : fields-fit f x ≡ true) (kind : (1 ≤ x .kind) × (x .kind ≤ 5)) where
   abbrev arrays : Arrays

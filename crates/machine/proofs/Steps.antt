@@ -34,7 +34,8 @@ use Rattle.acts.specs.declared.Acted.{Acted}
 use Rattle.acts.specs.declared.Acted.the-variants.{Done, Unmet}
 use Rattle.machine.specs.Choices.{choices-of}
 use Rattle.acts.specs.Inner.Acting.{Room, Rooms, Same, Low, Spans, Holds, Acts}
-use Rattle.machine.specs.Inner.Standing.{Spot, Runner, stored-with, tally-with, skipped, into, settled, past-record, chosen, from-of, to-of, ended-with, moved-to, tested, rest-of, left-of, weight, measure, Part, Placed, next-record, said-of, Stands, StepsAs, Steps, Stood, Reaches}
+use Rattle.machine.specs.Inner.Standing.{Spot, Runner, stored-with, tally-with, skipped, into, settled, past-record, chosen, ended-with, moved-to, tested, rest-of, left-of, weight, measure, Part, Placed, next-record, said-of, Stands, StepsAs, Steps, Stood, Reaches}
+use Rattle.reading.specs.Inner.Cells.{from-of, to-of}
 use Rattle.machine.proofs.Records.{few-arrays, spans, inside, few-counted, few-moved}
 use Rattle.machine.proofs.Places.{left-into, starts-into, placed-into, into-used, settling, light}
 

@@ -7,7 +7,7 @@ ghost use lib.ListN.{length};
 ghost use Rattle.model.specs.Sides.{cells};
 ghost use Rattle.reading.specs.Bytes.{arrays-of, first-arm, second-arm};
 ghost use Rattle.acts.specs.Inner.Acting.{Same};
-ghost use Rattle.machine.specs.Inner.Standing.{spot, runner, stored-with, tally-with, past-record, ended-with, moved-to, tested, from-of, to-of, measure, Stood, Steps};
+ghost use Rattle.machine.specs.Inner.Standing.{spot, runner, stored-with, tally-with, past-record, ended-with, moved-to, tested, measure, Stood, Steps};
 use acts::Acted;
 use acts::Stored;
 use acts::act;
@@ -18,8 +18,9 @@ use place::Place;
 use place::choose;
 use place::settle;
 use reading::Fields;
+use reading::first_cell;
 use reading::kinds::BRANCH;
-use reading::kinds::COPY;
+use reading::next_cell;
 use reading::record_at;
 
 pub mod place;
@@ -109,28 +110,6 @@ fn past(p: Place) -> Place
     let mut q = p;
     q.at = p.at + 1;
     q
-}
-
-// The first cell of a record with the fields x, whose array begins at cell `first`.
-fn first_cell(x: Fields, first: u16) -> usize
-    requires { ⌜ from-of x first < 65536 ⌝ }
-    ensures { λ r. ⌜ r ≡ from-of x first ⌝ }
-{
-    if x.kind <= COPY {
-        return (first + x.p) as usize;
-    }
-    first as usize
-}
-
-// The cell after its last, where the array ends before cell `next`.
-fn next_cell(x: Fields, first: u16, next: u16) -> usize
-    requires { ⌜ to-of x first next < 65536 ⌝ }
-    ensures { λ r. ⌜ r ≡ to-of x first next ⌝ }
-{
-    if x.kind <= COPY {
-        return (first + x.q) as usize;
-    }
-    next as usize
 }
 
 // What a record acts on besides the memories.

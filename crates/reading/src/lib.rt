@@ -101,24 +101,37 @@ fn place(n: u16) -> usize
     n as usize
 }
 
-// Which cells a record with the fields x covers: those from P up to Q of its array for kinds 1 to 3, else the whole array. `starts` has the first cell
-// of each array, and after the last array the number of cells.
+// The first cell of a record with the fields x, whose array begins at cell `first`: P for kinds 1 to 3, else the array's first.
+pub fn first_cell(x: Fields, first: u16) -> usize
+    ensures { λ r. ⌜ r ≡ from-of x first ⌝ }
+{
+    if x.kind <= COPY {
+        return place(first) + place(x.p);
+    }
+    place(first)
+}
+
+// The cell after its last, where the array ends before cell `next`.
+pub fn next_cell(x: Fields, first: u16, next: u16) -> usize
+    ensures { λ r. ⌜ r ≡ to-of x first next ⌝ }
+{
+    if x.kind <= COPY {
+        return place(first) + place(x.q);
+    }
+    place(next)
+}
+
+// Which cells a record with the fields x covers. `starts` has the first cell of each array, and after the last array the number of cells.
 pub fn cells_of(x: Fields, starts: &[u16; STARTS]) -> Span
     requires { ⌜ x .array < 32 ⌝ }
     ensures from { λ s. ⌜ s .from ≡ from-of x (getD (now (starts .entry)) (x .array) 0) ⌝ }
     ensures to { λ s. ⌜ s .to ≡ to-of x (getD (now (starts .entry)) (x .array) 0) (getD (now (starts .entry)) (x .array + 1) 0) ⌝ }
 {
     let a = x.array as usize;
-    let first = place(starts[a]);
-    let next = place(starts[a + 1]);
-    if x.kind <= COPY {
-        return Span {
-            from: first + place(x.p),
-            to: first + place(x.q),
-        };
-    }
+    let first = starts[a];
+    let next = starts[a + 1];
     Span {
-        from: first,
-        to: next,
+        from: first_cell(x, first),
+        to: next_cell(x, first, next),
     }
 }

@@ -9,7 +9,8 @@ use Rattle.reading.specs.Bytes.{array-count, arrays-of}
 use Rattle.format.proofs.Walking.{opened-facts}
 use Rattle.format.proofs.Acts.{record-inside}
 use Rattle.acts.proofs.Cells.{same-all, same-more}
-use Rattle.machine.specs.Inner.Standing.{Spot, runner, settled, stored-with, from-of, to-of}
+use Rattle.machine.specs.Inner.Standing.{Spot, runner, settled, stored-with}
+use Rattle.reading.specs.Inner.Cells.{from-of, to-of}
 use Rattle.machine.proofs.Records.{on-array}
 use Rattle.machine.proofs.Steps.{fits-inside, record-fits, kind-is, not-deep, Able, at-end, at-test, able, at-record, ensured}
 use borrow.Author.Needs.{needs}
@@ -20,9 +21,9 @@ use Rattle.machine.proofs.step.Lts as lts
 use Rattle.acts.proofs.act.Reads as act-reads
 use Rattle.reading.proofs.record_at.Reads as record-at-reads
 use Rattle.machine.proofs.acted_on.Reads as acted-on-reads
-use Rattle.machine.proofs.first_cell.Reads as first-cell-reads
+use Rattle.reading.proofs.first_cell.Reads as first-cell-reads
 use Rattle.machine.proofs.moved.Reads as moved-reads
-use Rattle.machine.proofs.next_cell.Reads as next-cell-reads
+use Rattle.reading.proofs.next_cell.Reads as next-cell-reads
 use Rattle.machine.proofs.over.Reads as over-reads
 use Rattle.machine.proofs.past.Reads as past-reads
 use Rattle.machine.proofs.place.settle.Reads as settle-reads
@@ -106,10 +107,10 @@ slice-read-next : tie.Need-slice-read-next
 slice-read-next c = let w = c .before .before .before .before .before .before .before .before .before .before .before .before .before .before .before .pre .1 .stands in omega (arith, array-there (c .before .before), opened-facts _ (w .plain .opens) .bounds .header .arrays, w .placed .size)
 
 first-cell-requires : tie.Need-first-cell-requires
-first-cell-requires c κs = let r = able-here c in omega (arith, r .rooms .few, r .rooms .in-own .order)
+first-cell-requires c κs = search needs
 
 next-cell-requires : tie.Need-next-cell-requires
-next-cell-requires c κs = let r = able-here (c .before) in omega (arith, r .rooms .few)
+next-cell-requires c κs = search needs
 
 acted-on-requires : tie.Need-acted-on-requires
 acted-on-requires c κs = search needs

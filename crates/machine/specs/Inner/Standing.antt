@@ -113,14 +113,6 @@ tested m x choices =
     cond (eqb (m .place .used) (length choices)) (ended-with m (Refused 22 (m .place .at)))
     (moved-to m (settled (chosen (m .place) x (getD choices (m .place .used) 0))) (m .flags) (m .others))
 
--- the first cell of a record with the fields x, whose array has the cells `first` up to `next`
-abbrev pub from-of : Fields → ℕ → ℕ
-from-of x first = cond (leb (x .kind) 3) (first + x .p) first
-
--- the cell after its last
-abbrev pub to-of : Fields → ℕ → ℕ → ℕ
-to-of x first next = cond (leb (x .kind) 3) (first + x .q) next
-
 -- what is left behind the innermost of `depth` arms
 unfoldable pub rest-of : List ℕ → List ℕ → ℕ → Block
 rest-of f room zero = Block.done
