@@ -60,7 +60,7 @@ pub fn report_of(
         writes: 0,
         moved: 0,
     };
-    let counted = run::run_counted(plan, host, card, latest, choices, nothing);
+    let counted = run::run(plan, host, card, latest, choices, nothing);
     let end = counted.end;
     let tally = counted.tally;
     let verdict = end.verdict;

@@ -58,7 +58,7 @@ pub fn run_opened(
 }
 
 // Runs a plan file on lent memories, the tally by value.
-pub fn run_counted(
+pub fn run(
     plan: &[u8],
     host: &mut [u64],
     card: &mut [u64],
@@ -69,20 +69,4 @@ pub fn run_counted(
     ensures { λ r. ⌜ Runs (now (plan .entry)) (now (choices .entry)) (lent (now (host .entry)) (now (card .entry)) (now (latest .entry)) tally) (lent (now (host .exit)) (now (card .exit)) (now (latest .exit)) (r .tally)) (r .end) ⌝ }
 {
     run_opened(plan, format::open(plan), host, card, latest, choices, tally)
-}
-
-// Runs a plan file on lent memories; the tally is lent too, and brought up to date.
-pub fn run(
-    plan: &[u8],
-    host: &mut [u64],
-    card: &mut [u64],
-    latest: &mut [u64],
-    choices: &[u8],
-    tally: &mut Tally,
-) -> End
-    ensures { λ r. ⌜ Runs (now (plan .entry)) (now (choices .entry)) (lent (now (host .entry)) (now (card .entry)) (now (latest .entry)) (now (tally .entry))) (lent (now (host .exit)) (now (card .exit)) (now (latest .exit)) (now (tally .exit))) r ⌝ }
-{
-    let c = run_counted(plan, host, card, latest, choices, *tally);
-    *tally = c.tally;
-    c.end
 }

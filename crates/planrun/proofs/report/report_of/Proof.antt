@@ -7,8 +7,8 @@ use borrow.Author.Needs.{needs}
 use Rattle.planrun.proofs.report.report_of.Statement.{statement}
 use Rattle.planrun.proofs.report.report_of.Tie as tie
 
-run-counted-requires : tie.Need-run-counted-requires
-run-counted-requires c κs = search needs
+run-requires : tie.Need-run-requires
+run-requires c κs = search needs
 
 ending-of-requires : tie.Need-ending-of-requires
 ending-of-requires c κs = search needs
@@ -20,7 +20,7 @@ returns : tie.Need-returns
 returns c =
     let u = c .before .before .before .before .before .before .before .before .before .before .args in
     record {
-      runs = c .before .before .before .before .run-counted .ensures;
+      runs = c .before .before .before .before .run .ensures;
       roomy = roomy (u .plan .now) (u .choices .now) (lent (u .host .now) (u .card .now) (u .latest .now) nothing) (omega arith) (omega arith) (omega arith);
       values = c .values-of .ensures;
       ending = c .before .ending-of .ensures;
@@ -28,4 +28,4 @@ returns c =
 
 pub report-of-spec : {M : Type 1} → statement M
 report-of-spec =
-    tie.close (tie.spec run-counted-requires ending-of-requires values-of-requires returns)
+    tie.close (tie.spec run-requires ending-of-requires values-of-requires returns)
