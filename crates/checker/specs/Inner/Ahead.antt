@@ -1,4 +1,4 @@
--- The records that concern a cell, and a table that leads from each place to the first of them.
+-- No promise of an entry point rests on this text: the records that concern a cell, and a table that leads from each place to the first of them.
 use Prim.Native.Nat.{ℕ, _+_, _≤_, _<_}
 use mathlib.Core.Path.{_≡_}
 use mathlib.Core.Bool.{Bool, cond, _&&_, _||_}

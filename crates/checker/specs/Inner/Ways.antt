@@ -1,4 +1,4 @@
--- What the walk of one cell through a block finds, and the rows that it keeps.
+-- No promise of an entry point rests on this text: what the walk of one cell through a block finds, and the rows that it keeps.
 use Prim.Native.Nat.{ℕ, _+_, _*_, _/_, _%_, _≤_, _<_}
 use mathlib.Core.Path.{_≡_}
 use mathlib.Core.Logic.{_↔_}

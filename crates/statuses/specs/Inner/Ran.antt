@@ -1,4 +1,4 @@
--- What is found from some statuses: those that can be reached, and the lowest stop.
+-- No promise of an entry point rests on this text: what is found from some statuses: those that can be reached, and the lowest stop.
 use Prim.Native.Nat.{ℕ, _≤_, _<_}
 use mathlib.Core.Path.{_≡_}
 use mathlib.Core.Logic.{_⊎_, _↔_}
