@@ -1,5 +1,6 @@
 -- `exports::plan_body_view` packs the answer and the place of a body.
-use Rattle.exports.specs.Exported.{packed-body-view}
+use mathlib.Core.Path.{_∙_}
+use Rattle.exports.proofs.Packs.{body-packs}
 use borrow.Author.Needs.{needs}
 use Rattle.exports.proofs.plan_body_view.Statement.{statement}
 use Rattle.exports.proofs.plan_body_view.Tie as tie
@@ -11,8 +12,7 @@ pack-part-requires : tie.Need-pack-part-requires
 pack-part-requires c κs = search needs
 
 returns : tie.Need-returns
-unfolding packed-body-view
-returns c = cc
+returns c = c .pack-part .ensures ∙ body-packs _ _ _ (c .before .body-part .ensures .0)
 
 pub plan-body-view-spec : {M : Type 1} → statement M
 plan-body-view-spec = tie.close (tie.spec body-part-requires pack-part-requires returns)

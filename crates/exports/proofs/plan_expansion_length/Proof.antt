@@ -1,5 +1,6 @@
 -- `exports::plan_expansion_length` packs the length of an expansion.
-use Rattle.exports.specs.Exported.{packed-expansion-length}
+use mathlib.Core.Path.{_∙_}
+use Rattle.exports.proofs.Packs.{length-packs}
 use borrow.Author.Needs.{needs}
 use Rattle.exports.proofs.plan_expansion_length.Statement.{statement}
 use Rattle.exports.proofs.plan_expansion_length.Tie as tie
@@ -14,8 +15,7 @@ pack-length-requires : tie.Need-pack-length-requires
 pack-length-requires c κs = search needs
 
 returns : tie.Need-returns
-unfolding packed-expansion-length
-returns c = cc
+returns c = c .pack-length .ensures ∙ length-packs _ _ (c .before .before .«open» .ensures) _ (c .before .expansion-length .ensures)
 
 pub plan-expansion-length-spec : {M : Type 1} → statement M
 plan-expansion-length-spec =

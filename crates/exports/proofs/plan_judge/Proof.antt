@@ -1,5 +1,6 @@
 -- `exports::plan_judge` packs the judge's answer.
-use Rattle.exports.specs.Exported.{packed-judge}
+use mathlib.Core.Path.{_∙_}
+use Rattle.exports.proofs.Packs.{judge-packs}
 use borrow.Author.Needs.{needs}
 use Rattle.exports.proofs.plan_judge.Statement.{statement}
 use Rattle.exports.proofs.plan_judge.Tie as tie
@@ -14,8 +15,7 @@ pack-answer-requires : tie.Need-pack-answer-requires
 pack-answer-requires c κs = search needs
 
 returns : tie.Need-returns
-unfolding packed-judge
-returns c = cc
+returns c = c .pack-answer .ensures ∙ judge-packs _ _ (c .before .before .«open» .ensures) _ (c .before .judge-opened .ensures)
 
 pub plan-judge-spec : {M : Type 1} → statement M
 plan-judge-spec =

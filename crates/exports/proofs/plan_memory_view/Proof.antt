@@ -1,5 +1,6 @@
 -- `exports::plan_memory_view` packs the answer and the side of a memory view.
-use Rattle.exports.specs.Exported.{packed-memory-view}
+use mathlib.Core.Path.{_∙_}
+use Rattle.exports.proofs.Packs.{view-packs}
 use borrow.Author.Needs.{needs}
 use Rattle.exports.proofs.plan_memory_view.Statement.{statement}
 use Rattle.exports.proofs.plan_memory_view.Tie as tie
@@ -11,8 +12,7 @@ pack-view-requires : tie.Need-pack-view-requires
 pack-view-requires c κs = search needs
 
 returns : tie.Need-returns
-unfolding packed-memory-view
-returns c = cc
+returns c = c .pack-view .ensures ∙ view-packs _ _ _ _ _ _ (c .before .memory-side .ensures)
 
 pub plan-memory-view-spec : {M : Type 1} → statement M
 plan-memory-view-spec = tie.close (tie.spec memory-side-requires pack-view-requires returns)

@@ -1,5 +1,6 @@
 -- `exports::plan_open` packs what opening gives.
-use Rattle.exports.specs.Exported.{packed-opening}
+use mathlib.Core.Path.{_∙_}
+use Rattle.exports.proofs.Packs.{opening-packs}
 use borrow.Author.Needs.{needs}
 use Rattle.exports.proofs.plan_open.Statement.{statement}
 use Rattle.exports.proofs.plan_open.Tie as tie
@@ -11,8 +12,7 @@ pack-answer-requires : tie.Need-pack-answer-requires
 pack-answer-requires c κs = search needs
 
 returns : tie.Need-returns
-unfolding packed-opening
-returns c = cc
+returns c = c .pack-answer .ensures ∙ opening-packs _ _ (c .before .«open» .ensures)
 
 pub plan-open-spec : {M : Type 1} → statement M
 plan-open-spec = tie.close (tie.spec open-requires pack-answer-requires returns)

@@ -1,5 +1,5 @@
 -- `packing::pack_length` packs a length.
-use Rattle.packing.specs.Packed.{packed-length}
+use Rattle.packing.proofs.Packs.{length-packs}
 use borrow.Author.Needs.{needs}
 use Rattle.packing.proofs.pack_length.Statement.{statement}
 use Rattle.packing.proofs.pack_length.Tie as tie
@@ -32,8 +32,7 @@ add-result-3 : tie.Need-add-result-3
 add-result-3 c = search needs
 
 returns : tie.Need-returns
-unfolding packed-length
-returns c = cc
+returns c = length-packs _ _ _ (c .before .before .before .values-of .ensures)
 
 pub pack-length-spec : {M : Type 1} → statement M
 pack-length-spec =
