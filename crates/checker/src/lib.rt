@@ -7,13 +7,6 @@ use contents::Opened;
 use model::Verdict;
 use reading::kinds::PLAIN;
 
-mod ahead;
-mod block;
-mod cells;
-mod fields;
-pub mod first_loop;
-mod loops;
-
 // The check of a plan file that opening has found to be o.
 pub fn check_opened(plan: &[u8], o: Opened) -> Verdict
     requires { ⌜ o ≡ opened (now plan) ⌝ }

@@ -4,14 +4,14 @@
 //
 // A status has a number below 16: 8 if the host copy is current, 4 if the card copy is, 2 if the host flag of its array is set, 1 if the card flag is. A set of
 // statuses is printed as the sum of 2 to the number of each: the start, host copy current and host flag set, is status 10, and alone the set 1024.
-use checker::first_loop::Turned;
-use checker::first_loop::after_turns;
 use console::input::ROOM;
 use console::input::read_plan;
 use console::page::Page;
 use console::page::finish;
 use console::page::numbered;
 use console::page::text;
+use first_loop::Turned;
+use first_loop::after_turns;
 use statuses::acts::NONE;
 
 // The line for so many turns.

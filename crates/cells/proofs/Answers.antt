@@ -1,0 +1,82 @@
+-- The answer over the cells, one cell at a time.
+use Prim.Native.Nat.{ℕ, suc, _+_, _-_, _≤_, _<_}
+use mathlib.Core.Path.{_≡_, refl, subst}
+use mathlib.Core.Logic.{inl, inr}
+use mathlib.Core.Bool.{Bool, true, false, cond, true≢false}
+use mathlib.Core.Option.{none, some}
+use mathlib.Core.List.{List}
+use native.Mathlib.Numerals.{add-one}
+use native.Mathlib.Omega.{arith}
+use lib.Dec.{eqb}
+use lib.ListN.{getD}
+use borrow.Author.Tests.{eqb-false, ne-eqb}
+use Rattle.model.specs.declared.Verdict.{Verdict}
+use Rattle.model.specs.Sides.{length-of, first-of}
+use Rattle.model.proofs.Status.{Status}
+use Rattle.model.proofs.Through.{StopsAt}
+use Rattle.model.proofs.Check.{AtMost, Least, with-cell, Fits, fits-cell, fits-alike}
+use Rattle.reading.specs.Bytes.{array-count, arrays-of, record-count}
+use Rattle.format.specs.Plans.{plan-of}
+use Rattle.format.specs.Inner.Walks.{Plain, Starts, block-between}
+use Rattle.reading.proofs.Tables.{first-more, first-rises, all-cells}
+use Rattle.format.proofs.Walking.{opened-facts}
+use Rattle.statuses.specs.declared.acts.Found.{Found}
+use Rattle.statuses.specs.Inner.Sets.{In, record-of, at-start}
+use Rattle.statuses.specs.Inner.Ran.{Below, Ran}
+use Rattle.lookahead.specs.Inner.Ahead.{cell-at}
+use Rattle.summary.specs.Inner.Ways.{Passed}
+use Rattle.summary.proofs.Ways.{Begins, start-in}
+use Rattle.classes.specs.Inner.Marks.{Marked}
+use Rattle.cells.specs.Inner.Spans.{Span}
+use Rattle.cells.proofs.Alike.{stop-alike}
+
+-- what is found from it is the lowest stop
+least-found : {G : Status → Status → Type 0} {S : Status → ℕ → Type 0} (set : ℕ) → Begins set → (t : Found) → Ran G S (In set) 65535 t → Least (record-of (t .low)) (S at-start)
+least-found {S = S} set b t m = record { named = λ n e. go (eqb (t .low) 65535) refl n e; least = λ r s. below r (m .least at-start r (start-in set b at-start .1 refl) s) }
+  where
+    go : (b : Bool) → eqb (t .low) 65535 ≡ b → (n : ℕ) → cond b none (some (t .low)) ≡ some n → S at-start n
+    go true q n e = absurd (true≢false (cc))
+    go false q n e = let z : t .low ≡ n = cc in elim (m .named) [
+      | inl d ↦ absurd (eqb-false (t .low) 65535 q d)
+      | inr p ↦ rw (← z) (subst (λ u. S u (t .low)) (start-in set b (p .0) .0 (p .1)) (p .2))
+    ]
+
+    below : (r : ℕ) → Below (t .low) r → AtMost (record-of (t .low)) r
+    below r h = rw (ne-eqb (t .low) 65535 (λ e. omega arith)) (h .0)
+
+pub stop-is : (f : List ℕ) (c class : ℕ) (rows : List ℕ) (start t : Found) → Begins (start .set) → start .low ≡ 65535 →
+    Passed f c class (block-between f 0 (record-count f)) (In (start .set)) (start .low) rows t → Least (record-of (t .low)) (λ r. StopsAt (plan-of f) r c)
+unfolding plan-of block-between
+stop-is f c class rows start t b e p = least-found (start .set) b t (rw e at (p .ran))
+
+-- the first cell of an array is a small number
+pub start-low : {f starts : List ℕ} {bodies : ℕ} → Plain f bodies → Starts f starts → (a : ℕ) → a ≤ array-count f → getD starts a 0 ≤ 4096
+start-low {f} w s a h = omega (arith, s .first a h, first-rises (arrays-of f) a (array-count f) h, all-cells f, opened-facts f (w .opens) .bounds .cells-below)
+
+-- where the cells of an array end
+pub record Ends (f : List ℕ) (array first next : ℕ) : Type 0 where
+  pub size : next ≡ first + length-of (arrays-of f) array
+  pub limit : next ≤ 4096
+
+module _ (f : List ℕ) (bodies : ℕ) (w : Plain f bodies) (array first next : ℕ) (s : Span f array first next) where
+  pub ends : Ends f array first next
+  ends =
+      let m : first-of (arrays-of f) (array + 1) ≡ first-of (arrays-of f) array + length-of (arrays-of f) array = rw add-one (first-more (arrays-of f) array) in
+      let l : first-of (arrays-of f) (array + 1) ≤ first-of (arrays-of f) (array-count f) = first-rises (arrays-of f) (array + 1) (array-count f) (omega (arith, s .one)) in
+      record { size = omega (arith, s .begins, s .ends); limit = omega (arith, s .ends, all-cells f, opened-facts f (w .opens) .bounds .cells-below) }
+
+  module _ (c : ℕ) (low : first ≤ c) (high : c < next) (v : Verdict) (fits : Fits c (StopsAt (plan-of f)) v) where
+    -- with its own stop
+    pub looked : (u : Verdict) (k : ℕ) → Least (record-of k) (λ r. StopsAt (plan-of f) r (cell-at f array (c - first))) → u ≡ with-cell v c (record-of k) → Fits (c + 1) (StopsAt (plan-of f)) u
+    looked u k l e =
+        let p : cell-at f array (c - first) ≡ c = omega (arith, s .begins) in
+        rw (e, add-one) (fits-cell c (StopsAt (plan-of f)) v (record-of k) fits (rw p at l))
+
+    -- with that of the cell before it
+    pub shared : (m : List ℕ) → Marked f (record-count f) m → (c ≡ first → ⊥) → (getD m c 0 ≡ 1 → ⊥) → Fits (c + 1) (StopsAt (plan-of f)) v
+    shared m k nf nm =
+        let o : ℕ = c - first - 1 in
+        let inside : suc o < length-of (arrays-of f) array = omega (arith, ends .size) in
+        let e : cell-at f array (suc o) ≡ c = omega (arith, s .begins) in
+        rw add-one (fits-alike c (cell-at f array o) (StopsAt (plan-of f)) v (omega (arith, s .begins))
+        (λ r p. stop-alike f bodies w array o inside (k .alike array o inside (rw e nm)) r (rw e p)) fits)

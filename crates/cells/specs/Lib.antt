@@ -1,0 +1,2 @@
+-- The answer over all cells.
+pub mod Inner

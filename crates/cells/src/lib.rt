@@ -1,0 +1,146 @@
+// The answer over the cells of an opened plain plan: cells that no record tells apart share one walk.
+ghost use mathlib.Core.Path.{_≡_};
+ghost use Prim.Native.Nat.{_+_, _<_};
+ghost use Rattle.model.specs.Sides.{length-of};
+ghost use Rattle.model.specs.Check.{Answers};
+ghost use Rattle.model.proofs.Through.{StopsAt};
+ghost use Rattle.model.proofs.Check.{Least, Fits};
+ghost use Rattle.reading.specs.Bytes.{array-count, arrays-of, record-count};
+ghost use Rattle.format.specs.Plans.{plan-of};
+ghost use Rattle.format.specs.Inner.Walks.{Plain, Starts};
+ghost use Rattle.statuses.specs.Inner.Sets.{record-of};
+ghost use Rattle.lookahead.specs.Inner.Ahead.{cell-at, Spare};
+ghost use Rattle.summary.specs.Inner.Ways.{Room};
+ghost use Rattle.classes.specs.Inner.Marks.{Marked};
+ghost use Rattle.cells.specs.Inner.Spans.{Span};
+use classes::PLACES;
+use classes::marks;
+use classes::with_cell;
+use lookahead::NOWHERE;
+use lookahead::look_ahead;
+use model::Array;
+use model::Cell;
+use model::Verdict;
+use reading::kinds::STARTS;
+use statuses::acts::Found;
+use statuses::acts::NONE;
+use statuses::acts::START;
+use statuses::sets::only;
+use summary::block;
+
+// The lowest record at which cell c, cell `offset` of an array, can stop, NONE if there is none.
+fn stop_of(
+    plan: &[u8],
+    bodies: usize,
+    records: usize,
+    rows: &mut [u32],
+    ahead: &mut [usize],
+    array: Array,
+    offset: usize,
+    c: usize,
+) -> u16
+    requires { ⌜ Plain (now plan) bodies × (records ≡ record-count (now plan)) × (offset < length-of (arrays-of (now plan)) (array .0)) × (c < 4096) × Room (now plan) c (now rows) × Spare (now plan) (now ahead) ⌝ }
+    ensures { λ k. ⌜ Least (record-of k) (λ r. StopsAt (plan-of (now (plan .entry))) r (cell-at (now (plan .entry)) (array .0) offset)) × Room (now (plan .entry)) (c + 1) (now (rows .exit)) × Spare (now (plan .entry)) (now (ahead .exit)) ⌝ }
+{
+    look_ahead(plan, bodies, records, array, offset, ahead);
+    let start = Found {
+        set: only(START),
+        low: NONE,
+    };
+    let t = block(
+        plan,
+        bodies,
+        array,
+        offset,
+        rows,
+        ahead,
+        c as u32 + 1,
+        start,
+        0,
+        records,
+    );
+    t.low
+}
+
+// The answer for the cells before an array, and then for its own cells.
+fn over_array(
+    plan: &[u8],
+    bodies: usize,
+    records: usize,
+    rows: &mut [u32],
+    ahead: &mut [usize],
+    m: &[u8; PLACES],
+    array: Array,
+    first: usize,
+    next: usize,
+    before: Verdict,
+) -> Verdict
+    requires { ⌜ Plain (now plan) bodies × (records ≡ record-count (now plan)) × Marked (now plan) (record-count (now plan)) (now m) × Span (now plan) (array .0) first next × Fits first (StopsAt (plan-of (now plan))) before × Room (now plan) first (now rows) × Spare (now plan) (now ahead) ⌝ }
+    ensures { λ r. ⌜ Fits next (StopsAt (plan-of (now (plan .entry)))) r × Room (now (plan .entry)) next (now (rows .exit)) × Spare (now (plan .entry)) (now (ahead .exit)) ⌝ }
+{
+    let mut v = before;
+    let mut c = first;
+    while c < next {
+        if (c == first) | (m[c] == 1) {
+            let k = stop_of(plan, bodies, records, rows, ahead, array, c - first, c);
+            v = with_cell(v, Cell(c as u16), k);
+        }
+        c += 1;
+    }
+    v
+}
+
+// The answer for all cells, with a table of rows.
+fn answer_with(
+    plan: &[u8],
+    bodies: usize,
+    records: usize,
+    arrays: usize,
+    starts: &[u16; STARTS],
+    rows: &mut [u32],
+    ahead: &mut [usize],
+) -> Verdict
+    requires { ⌜ Plain (now plan) bodies × (records ≡ record-count (now plan)) × (arrays ≡ array-count (now plan)) × Starts (now plan) (now starts) × Room (now plan) 0 (now rows) × Spare (now plan) (now ahead) ⌝ }
+    ensures { λ r. ⌜ Answers (plan-of (now (plan .entry))) r ⌝ }
+{
+    let m = marks(plan, bodies, records, starts);
+    let mut v = Verdict::Accepted;
+    for a in 0..arrays {
+        let first = starts[a] as usize;
+        let next = starts[a + 1] as usize;
+        v = over_array(
+            plan,
+            bodies,
+            records,
+            rows,
+            ahead,
+            &m,
+            Array(a as u16),
+            first,
+            next,
+            v,
+        );
+    }
+    v
+}
+
+// The answer for all cells: a plan of few records needs few rows.
+pub fn answer(
+    plan: &[u8],
+    bodies: usize,
+    records: usize,
+    arrays: usize,
+    starts: &[u16; STARTS],
+) -> Verdict
+    requires { ⌜ Plain (now plan) bodies × (records ≡ record-count (now plan)) × (arrays ≡ array-count (now plan)) × Starts (now plan) (now starts) ⌝ }
+    ensures { λ r. ⌜ Answers (plan-of (now (plan .entry))) r ⌝ }
+{
+    if records <= 64 {
+        let mut few = [0u32; 1024];
+        let mut near = [NOWHERE; 65];
+        return answer_with(plan, bodies, records, arrays, starts, &mut few, &mut near);
+    }
+    let mut rows = [0u32; 16384];
+    let mut ahead = [NOWHERE; 1025];
+    answer_with(plan, bodies, records, arrays, starts, &mut rows, &mut ahead)
+}

@@ -1,0 +1,96 @@
+-- `marks` marks where the cells of a record begin and end. The invariant: a place without a mark is clear of the records before r.
+use Prim.Native.Nat.{_+_, _-_, _≤_}
+use mathlib.Core.Path.{_≡_, refl, ap, _∙_}
+use mathlib.Core.Logic.{⊎-elim}
+use native.Mathlib.Omega.{arith}
+use lib.ListN.{getD}
+use borrow.Author.Tests.{le-leb}
+use Rattle.model.specs.Sides.{first-of}
+use Rattle.reading.specs.Bytes.{arrays-of}
+use Rattle.classes.specs.Inner.Marks.{Marked}
+use Rattle.format.proofs.Acts.{record-inside}
+use Rattle.classes.proofs.Marking.{Edges, edges, marked-none, marked-skip, marked-more}
+use borrow.Author.Needs.{needs}
+use Rattle.classes.proofs.marks.Statement.{statement}
+use Rattle.classes.proofs.marks.Tie as tie
+
+abbrev Inv-loop : tie.InvT-loop
+Inv-loop plan bodies records starts m₀ r₀ m r = (r ≤ records) × Marked plan r m
+
+abbrev μ-loop : tie.MeasureT-loop
+μ-loop plan bodies records starts m₀ r₀ m r = records - r
+
+-- a record with cells, in an array of the plan
+edge : (c : tie.Then1 Inv-loop μ-loop) → Edges (c .before .before .before .before .before .before .args .plan .now) (c .before .before .record-at .result)
+edge c =
+    let a = c .before .before .before .before .before .before in
+    edges _ _ (a .pre .0) (c .before .before .before .before .loop .r) (omega (arith, a .pre .1)) _ (c .before .before .record-at .ensures) (omega (arith, c .if1 .taken))
+
+-- whose array begins there
+first : (c : tie.Then1 Inv-loop μ-loop) → getD (c .before .before .before .before .before .before .args .starts .now) (c .before .before .record-at .result .array) 0 ≡ first-of (arrays-of (c .before .before .before .before .before .before .args .plan .now)) (c .before .before .record-at .result .array)
+first c = c .before .before .before .before .before .before .pre .2 .first _ (omega (arith, edge c .array))
+
+-- its first cell, and the one after its last
+from : (c : tie.After-cells-of Inv-loop μ-loop) → c .cells-of .result .from ≡ first-of (arrays-of (c .before .before .before .before .before .before .before .args .plan .now)) (c .before .before .before .record-at .result .array) + c .before .before .before .record-at .result .p
+from c =
+    let k = le-leb (c .before .before .before .record-at .result .kind) 3 (omega (arith, c .before .if1 .taken)) in
+    (rw k at (c .cells-of .ensures .0)) ∙ ap (λ z. z + c .before .before .before .record-at .result .p) (first (c .before))
+
+to : (c : tie.After-cells-of Inv-loop μ-loop) → c .cells-of .result .to ≡ first-of (arrays-of (c .before .before .before .before .before .before .before .args .plan .now)) (c .before .before .before .record-at .result .array) + c .before .before .before .record-at .result .q
+to c =
+    let k = le-leb (c .before .before .before .record-at .result .kind) 3 (omega (arith, c .before .if1 .taken)) in
+    (rw k at (c .cells-of .ensures .1)) ∙ ap (λ z. z + c .before .before .before .record-at .result .q) (first (c .before))
+
+loop-holds : tie.Need-loop-holds Inv-loop μ-loop
+loop-holds c = (search needs, marked-none _ _ refl)
+
+record-at-requires : tie.Need-record-at-requires Inv-loop μ-loop
+record-at-requires c κs = (c .before .before .before .pre .0 .place, record-inside _ _ (c .before .before .before .pre .0) (c .before .loop .r) (omega (arith, c .before .before .before .pre .1)))
+
+cells-of-requires : tie.Need-cells-of-requires Inv-loop μ-loop
+cells-of-requires c κs = omega (arith, edge c .array, edge c .few)
+
+array-write-m : tie.Need-array-write-m Inv-loop μ-loop
+array-write-m c = let n = edge (c .before) in omega (arith, n .order, n .inside, from c)
+
+array-write-m-2 : tie.Need-array-write-m-2 Inv-loop μ-loop
+array-write-m-2 c = let n = edge (c .before) in omega (arith, n .inside, to c)
+
+add-r : tie.Need-add-r Inv-loop μ-loop
+add-r c = search needs
+
+loop-less : tie.Need-loop-less Inv-loop μ-loop
+loop-less c = search needs
+
+loop-again : tie.Need-loop-again Inv-loop μ-loop
+loop-again c =
+    let l = c .before .before .before .before .loop in
+    let x = c .before .before .record-at in (
+      search needs,
+      ⊎-elim
+          (λ w.
+          let there : tie.After-cells-of Inv-loop μ-loop = record { before = record { before = c .before; if1 = w .0 }; cells-of = w .1 } in
+          let n = edge (record { before = c .before; if1 = w .0 }) in
+          rw (w .2) (marked-more _ _ _ _ (x .ensures) (l .inv .1) _ _ (omega (arith, n .order, n .inside, from there)) (omega (arith, n .inside, to there)) (from there) (to there)))
+          (λ w. rw (w .1) (marked-skip _ _ _ _ (x .ensures) (l .inv .1) (w .0 .left)))
+          (c .if1 .came),
+    )
+
+returns : tie.Need-returns Inv-loop μ-loop
+returns c = let n : c .before .loop .r ≡ c .before .before .before .args .records = omega arith in rw (n, c .before .before .before .pre .1) at (c .before .loop .inv .1)
+
+pub marks-spec : {M : Type 1} → statement M
+marks-spec =
+    tie.close
+    (tie.spec
+    Inv-loop
+    μ-loop
+    loop-holds
+    record-at-requires
+    cells-of-requires
+    array-write-m
+    array-write-m-2
+    add-r
+    loop-less
+    loop-again
+    returns)

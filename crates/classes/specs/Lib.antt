@@ -1,0 +1,2 @@
+-- Which cells share a walk.
+pub mod Inner

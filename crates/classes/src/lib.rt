@@ -1,0 +1,57 @@
+// Which cells share a walk, and the answer with the cell of one walk more.
+ghost use mathlib.Core.Path.{_≡_};
+ghost use Rattle.model.proofs.Check.{with-cell};
+ghost use Rattle.reading.specs.Bytes.{record-count};
+ghost use Rattle.format.specs.Inner.Walks.{Plain, Starts};
+ghost use Rattle.statuses.specs.Inner.Sets.{record-of};
+ghost use Rattle.classes.specs.Inner.Marks.{Marked};
+use model::Cell;
+use model::Record;
+use model::Verdict;
+use reading::cells_of;
+use reading::kinds::COPY;
+use reading::kinds::STARTS;
+use reading::record_at;
+use statuses::acts::NONE;
+
+// How many places there are where cells of a record may begin or end.
+pub const PLACES: usize = 4097;
+
+// Marks each place where the cells of a record begin or end.
+pub fn marks(plan: &[u8], bodies: usize, records: usize, starts: &[u16; STARTS]) -> [u8; PLACES]
+    requires { ⌜ Plain (now plan) bodies × (records ≡ record-count (now plan)) × Starts (now plan) (now starts) ⌝ }
+    ensures { λ m. ⌜ Marked (now (plan .entry)) (record-count (now (plan .entry))) m ⌝ }
+{
+    let mut m = [0u8; PLACES];
+    for r in 0..records {
+        let x = record_at(plan, bodies, r);
+        if x.kind <= COPY {
+            let cells = cells_of(x, starts);
+            let from = cells.from;
+            let to = cells.to;
+            m[from] = 1;
+            m[to] = 1;
+        }
+    }
+    m
+}
+
+// The answer for the cells before cell c, and then for c too, which can stop at record k.
+pub fn with_cell(v: Verdict, c: Cell, k: u16) -> Verdict
+    ensures { λ r. ⌜ r ≡ with-cell v (c .0) (record-of k) ⌝ }
+{
+    if k == NONE {
+        return v;
+    }
+    match v {
+        Verdict::Accepted => Verdict::Stopped(Record(k), c),
+        Verdict::Stopped(r, d) => {
+            if k < r.0 {
+                Verdict::Stopped(Record(k), c)
+            } else {
+                Verdict::Stopped(r, d)
+            }
+        }
+        Verdict::Refused(number, place) => Verdict::Refused(number, place),
+    }
+}

@@ -1,0 +1,2 @@
+-- the loop with which a plan begins
+pub mod Beginning

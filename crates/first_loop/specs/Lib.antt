@@ -1,0 +1,2 @@
+-- So many turns of the loop with which a plan begins.
+pub mod Inner

@@ -1,0 +1,2 @@
+-- how the table is made
+pub mod Filling

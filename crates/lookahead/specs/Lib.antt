@@ -1,0 +1,2 @@
+-- The records that concern a cell.
+pub mod Inner

@@ -1,0 +1,11 @@
+-- a record that touches a cell, or does not
+pub mod Touched
+-- what is found of blocks and of loops
+pub mod Blocks
+pub mod Ways
+pub mod Skips
+pub mod Turns
+pub mod Keeping
+pub mod Actions
+pub mod Passing
+pub mod Prefixes

@@ -1,0 +1,60 @@
+-- No promise of an entry point rests on this text: what the walk of one cell through a block finds, and the rows that it keeps.
+use Prim.Native.Nat.{ℕ, _+_, _*_, _/_, _%_, _≤_, _<_}
+use mathlib.Core.Path.{_≡_}
+use mathlib.Core.Logic.{_↔_}
+use mathlib.Core.Bool.{cond}
+use mathlib.Core.List.{List}
+use lib.Dec.{eqb}
+use lib.ListN.{length, getD}
+use Rattle.model.specs.Sides.{length-of}
+use Rattle.model.specs.Blocks.{Block, done, branch, loop}
+use Rattle.model.proofs.Status.{Status}
+use Rattle.model.proofs.Through.{Goes, Stops}
+use Rattle.reading.specs.Bytes.{arrays-of, record-count, fields-at, first-arm}
+use Rattle.format.specs.Inner.Walks.{Plain, Walkable, block-between}
+use Rattle.statuses.specs.declared.acts.Found.{Found}
+use Rattle.statuses.specs.Inner.Ran.{Below, Ran}
+use Rattle.lookahead.specs.Inner.Ahead.{cell-at, Ahead}
+use Rattle.statuses.specs.Inner.Sets.{statuses, index, In}
+
+-- the body of loop k
+abbrev pub body-of : List ℕ → ℕ → Block
+body-of f k = block-between f (k + 1) (k + 1 + first-arm (fields-at f k))
+
+-- g has the exits of the body of loop k from status w, and `low` is at most each of its stops
+pub record Kept (f : List ℕ) (c low k w g : ℕ) : Type 0 where
+  pub exits : (v : Status) → In g v ↔ ((u : Status) × (index u ≡ w) × Goes (arrays-of f) c (body-of f k) u v)
+  pub least : (u : Status) (r : ℕ) → index u ≡ w → Stops (arrays-of f) c (body-of f k) u r → Below low r
+
+-- the table has a row for each record and status, and no row is of a later class
+pub record Room (f : List ℕ) (class : ℕ) (rows : List ℕ) : Type 0 where
+  pub long : 16 * record-count f ≤ length rows
+  pub old : (i : ℕ) → getD rows i 0 / 65536 ≤ class
+
+-- the rows of this class are right
+pub record Exact (f : List ℕ) (c class : ℕ) (rows : List ℕ) (low : ℕ) : Type 0 where
+  pub row : (k w : ℕ) → w < statuses → getD rows (16 * k + w) 0 / 65536 ≡ class → Kept f c low k w (getD rows (16 * k + w) 0 % 65536)
+  pub room : Room f class rows
+
+-- a walk of a cell can begin
+pub record Ready (f : List ℕ) (bodies array offset : ℕ) (ahead : List ℕ) (class : ℕ) (rows : List ℕ) (low : ℕ) : Type 0 where
+  pub plain : Plain f bodies
+  pub inside : offset < length-of (arrays-of f) array
+  pub leads : Ahead f array offset 0 ahead
+  pub small : class < 65536
+  pub exact : Exact f (cell-at f array offset) class rows low
+
+-- the body of loop r, or the first arm of branch r, ends at `second`
+pub record Body (f : List ℕ) (r second : ℕ) : Type 0 where
+  pub ends : second ≡ r + 1 + first-arm (fields-at f r)
+  pub below : second ≤ record-count f
+  pub walk : Walkable f (r + 1) second
+
+-- a branch (kind 6) or a loop
+abbrev pub nest : ℕ → ℕ → Block → Block → Block
+nest kind r x y = cond (eqb kind 6) (branch r x y done) (loop r x done)
+
+-- t is what is found of the ways through block b, and the rows are exact again
+pub record Passed (f : List ℕ) (c class : ℕ) (b : Block) (from : Status → Type 0) (low : ℕ) (rows : List ℕ) (t : Found) : Type 0 where
+  pub ran : Ran (Goes (arrays-of f) c b) (Stops (arrays-of f) c b) from low t
+  pub exact : Exact f c class rows (t .low)

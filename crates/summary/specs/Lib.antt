@@ -1,0 +1,2 @@
+-- The summary of a block: what it does to one cell.
+pub mod Inner

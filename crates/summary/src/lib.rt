@@ -1,0 +1,242 @@
+// The ways of one cell through a block of an opened plain plan. For each loop and each status with which its body is entered,
+// the exits of the body are computed once and kept in a row, with the class of the cell: rows of earlier classes need not be cleared.
+ghost use mathlib.Core.Path.{_≡_};
+ghost use Prim.Native.Nat.{_+_, _/_, _%_, _≤_, _<_};
+ghost use Rattle.model.specs.Blocks.{done, loop};
+ghost use Rattle.reading.specs.Bytes.{record-count};
+ghost use Rattle.format.specs.Inner.Walks.{Walkable, block-between};
+ghost use Rattle.statuses.specs.Inner.Sets.{statuses, index, In};
+ghost use Rattle.lookahead.specs.Inner.Ahead.{cell-at};
+ghost use Rattle.summary.specs.Inner.Ways.{Ready, Body, nest, Passed};
+use model::Array;
+use reading::first_arm;
+use reading::kinds::BRANCH;
+use reading::record_at;
+use reading::second_arm;
+use statuses::acts::Found;
+use statuses::acts::acted;
+use statuses::sets::EMPTY;
+use statuses::sets::lowest;
+use statuses::sets::only;
+use statuses::sets::union;
+use statuses::sets::with;
+use statuses::sets::without;
+
+// A row of this class with these exits.
+fn packed(class: u32, set: u16) -> u32
+    requires { ⌜ class < 65536 ⌝ }
+    ensures { λ r. ⌜ (r / 65536 ≡ class) × (r % 65536 ≡ set) ⌝ }
+{
+    class * 65536 + set as u32
+}
+
+// The exits that a row has.
+fn exits_of(row: u32) -> u16
+    ensures { λ r. ⌜ r ≡ row % 65536 ⌝ }
+{
+    (row % 65536) as u16
+}
+
+// The body of loop r, up to `second`, from status w.
+pub fn row_of(
+    plan: &[u8],
+    bodies: usize,
+    array: Array,
+    offset: usize,
+    rows: &mut [u32],
+    ahead: &[usize],
+    class: u32,
+    low: u16,
+    r: usize,
+    second: usize,
+    w: usize,
+) -> Found
+    requires { ⌜ Ready (now plan) bodies (array .0) offset (now ahead) class (now rows) low × Body (now plan) r second × (w < statuses) ⌝ }
+    ensures { λ t. ⌜ Passed (now (plan .entry)) (cell-at (now (plan .entry)) (array .0) offset) class (block-between (now (plan .entry)) (r + 1) second) (λ u. index u ≡ w) low (now (rows .exit)) t ⌝ }
+{
+    let at = 16 * r + w;
+    let known = rows[at];
+    if known / 65536 == class {
+        return Found {
+            set: exits_of(known),
+            low: low,
+        };
+    }
+    let start = Found {
+        set: only(w),
+        low: low,
+    };
+    let t = block(
+        plan,
+        bodies,
+        array,
+        offset,
+        rows,
+        ahead,
+        class,
+        start,
+        r + 1,
+        second,
+    );
+    rows[at] = packed(class, t.set);
+    t
+}
+
+// Any number of turns of loop r: the statuses to look at, until none is new.
+fn turned(
+    plan: &[u8],
+    bodies: usize,
+    array: Array,
+    offset: usize,
+    rows: &mut [u32],
+    ahead: &[usize],
+    class: u32,
+    start: Found,
+    r: usize,
+    second: usize,
+) -> Found
+    requires { ⌜ Ready (now plan) bodies (array .0) offset (now ahead) class (now rows) (start .low) × Body (now plan) r second ⌝ }
+    ensures { λ t. ⌜ Passed (now (plan .entry)) (cell-at (now (plan .entry)) (array .0) offset) class (loop r (block-between (now (plan .entry)) (r + 1) second) done) (In (start .set)) (start .low) (now (rows .exit)) t ⌝ }
+{
+    let mut t = start;
+    let mut looked = EMPTY;
+    let mut todo = start.set;
+    while todo != EMPTY {
+        let w = lowest(todo);
+        let row = row_of(
+            plan,
+            bodies,
+            array,
+            offset,
+            rows,
+            ahead,
+            class,
+            t.low,
+            r,
+            second,
+            w,
+        );
+        t = Found {
+            set: union(t.set, row.set),
+            low: row.low,
+        };
+        looked = with(looked, w);
+        todo = without(t.set, looked);
+    }
+    t
+}
+
+// A branch (kind 6) or a loop at record r, whose arms are the records up to `second` and up to `next`.
+fn nested(
+    plan: &[u8],
+    bodies: usize,
+    array: Array,
+    offset: usize,
+    rows: &mut [u32],
+    ahead: &[usize],
+    class: u32,
+    start: Found,
+    kind: u8,
+    r: usize,
+    second: usize,
+    next: usize,
+) -> Found
+    requires { ⌜ Ready (now plan) bodies (array .0) offset (now ahead) class (now rows) (start .low) × Body (now plan) r second × (second ≤ next) × (next ≤ record-count (now plan)) × Walkable (now plan) second next ⌝ }
+    ensures { λ t. ⌜ Passed (now (plan .entry)) (cell-at (now (plan .entry)) (array .0) offset) class (nest kind r (block-between (now (plan .entry)) (r + 1) second) (block-between (now (plan .entry)) second next)) (In (start .set)) (start .low) (now (rows .exit)) t ⌝ }
+{
+    if kind == BRANCH {
+        let one = block(
+            plan,
+            bodies,
+            array,
+            offset,
+            rows,
+            ahead,
+            class,
+            start,
+            r + 1,
+            second,
+        );
+        let again = Found {
+            set: start.set,
+            low: one.low,
+        };
+        let two = block(
+            plan,
+            bodies,
+            array,
+            offset,
+            rows,
+            ahead,
+            class,
+            again,
+            second,
+            next,
+        );
+        return Found {
+            set: union(one.set, two.set),
+            low: two.low,
+        };
+    }
+    turned(
+        plan,
+        bodies,
+        array,
+        offset,
+        rows,
+        ahead,
+        class,
+        start,
+        r,
+        second,
+    )
+}
+
+// The records from `from` up to `end`, for cell `offset` of an array: those that concern it, one after the other.
+pub fn block(
+    plan: &[u8],
+    bodies: usize,
+    array: Array,
+    offset: usize,
+    rows: &mut [u32],
+    ahead: &[usize],
+    class: u32,
+    start: Found,
+    from: usize,
+    end: usize,
+) -> Found
+    requires { ⌜ Ready (now plan) bodies (array .0) offset (now ahead) class (now rows) (start .low) × (from ≤ end) × (end ≤ record-count (now plan)) × Walkable (now plan) from end ⌝ }
+    ensures { λ t. ⌜ Passed (now (plan .entry)) (cell-at (now (plan .entry)) (array .0) offset) class (block-between (now (plan .entry)) from end) (In (start .set)) (start .low) (now (rows .exit)) t ⌝ }
+{
+    let mut t = start;
+    let mut at = from;
+    let mut r = ahead[from];
+    while r < end {
+        let x = record_at(plan, bodies, r);
+        if BRANCH <= x.kind {
+            let second = r + 1 + first_arm(x);
+            let next = second + second_arm(x);
+            t = nested(
+                plan,
+                bodies,
+                array,
+                offset,
+                rows,
+                ahead,
+                class,
+                t,
+                x.kind,
+                r,
+                second,
+                next,
+            );
+            at = next;
+            r = ahead[next];
+        } else {
+            t = acted(t, x.kind, x.side, r as u16);
+            at = r + 1;
+            r = ahead[at];
+        }
+    }
+    t
+}

@@ -1,0 +1,2 @@
+-- one turn, and so many
+pub mod Powers

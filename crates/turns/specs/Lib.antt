@@ -1,0 +1,2 @@
+-- So many turns of a loop.
+pub mod Inner
