@@ -24,7 +24,7 @@ use Rattle.statuses.specs.declared.acts.Found.{Found}
 use Rattle.statuses.specs.Inner.Sets.{In, record-of, at-start}
 use Rattle.statuses.specs.Inner.Ran.{Below, Ran}
 use Rattle.lookahead.specs.Inner.Ahead.{cell-at}
-use Rattle.summary.specs.Inner.Ways.{Passed}
+use Rattle.summary.specs.Inner.Ways.{cell-of, Passed}
 use Rattle.summary.proofs.Ways.{Begins, start-in}
 use Rattle.classes.specs.Inner.Marks.{Marked}
 use Rattle.cells.specs.Inner.Spans.{Span}
@@ -44,10 +44,9 @@ least-found {S = S} set b t m = record { named = λ n e. go (eqb (t .low) 65535)
     below : (r : ℕ) → Below (t .low) r → AtMost (record-of (t .low)) r
     below r h = rw (ne-eqb (t .low) 65535 (λ e. omega arith)) (h .0)
 
-pub stop-is : (f : List ℕ) (c class : ℕ) (rows : List ℕ) (start t : Found) → Begins (start .set) → start .low ≡ 65535 →
-    Passed f c class (block-between f 0 (record-count f)) (In (start .set)) (start .low) rows t → Least (record-of (t .low)) (λ r. StopsAt (plan-of f) r c)
+pub stop-is : (f : List ℕ) (c class : ℕ) (rows : List ℕ) (set : ℕ) (t : Found) → Begins set → class ≡ c + 1 → Passed f (cell-of class) class (block-between f 0 (record-count f)) (In set) 65535 rows t → Least (record-of (t .low)) (λ r. StopsAt (plan-of f) r c)
 unfolding plan-of block-between
-stop-is f c class rows start t b e p = least-found (start .set) b t (rw e at (p .ran))
+stop-is f c class rows set t b e p = let z : cell-of class ≡ c = omega arith in least-found set b t (rw z at (p .ran))
 
 -- the first cell of an array is a small number
 pub start-low : {f starts : List ℕ} {bodies : ℕ} → Plain f bodies → Starts f starts → (a : ℕ) → a ≤ array-count f → getD starts a 0 ≤ 4096
@@ -67,10 +66,8 @@ module _ (f : List ℕ) (bodies : ℕ) (w : Plain f bodies) (array first next : 
 
   module _ (c : ℕ) (low : first ≤ c) (high : c < next) (v : Verdict) (fits : Fits c (StopsAt (plan-of f)) v) where
     -- with its own stop
-    pub looked : (u : Verdict) (k : ℕ) → Least (record-of k) (λ r. StopsAt (plan-of f) r (cell-at f array (c - first))) → u ≡ with-cell v c (record-of k) → Fits (c + 1) (StopsAt (plan-of f)) u
-    looked u k l e =
-        let p : cell-at f array (c - first) ≡ c = omega (arith, s .begins) in
-        rw (e, add-one) (fits-cell c (StopsAt (plan-of f)) v (record-of k) fits (rw p at l))
+    pub looked : (u : Verdict) (k : ℕ) → Least (record-of k) (λ r. StopsAt (plan-of f) r c) → u ≡ with-cell v c (record-of k) → Fits (c + 1) (StopsAt (plan-of f)) u
+    looked u k l e = rw (e, add-one) (fits-cell c (StopsAt (plan-of f)) v (record-of k) fits l)
 
     -- with that of the cell before it
     pub shared : (m : List ℕ) → Marked f (record-count f) m → (c ≡ first → ⊥) → (getD m c 0 ≡ 1 → ⊥) → Fits (c + 1) (StopsAt (plan-of f)) v

@@ -22,7 +22,6 @@ use model::Array;
 use model::Cell;
 use model::Verdict;
 use reading::kinds::STARTS;
-use statuses::acts::Found;
 use statuses::acts::NONE;
 use statuses::acts::START;
 use statuses::sets::only;
@@ -39,23 +38,18 @@ fn stop_of(
     offset: usize,
     c: usize,
 ) -> u16
-    requires { ⌜ Plain (now plan) bodies × (records ≡ record-count (now plan)) × (offset < length-of (arrays-of (now plan)) (array .0)) × (c < 4096) × Room (now plan) c (now rows) × Spare (now plan) (now ahead) ⌝ }
-    ensures { λ k. ⌜ Least (record-of k) (λ r. StopsAt (plan-of (now (plan .entry))) r (cell-at (now (plan .entry)) (array .0) offset)) × Room (now (plan .entry)) (c + 1) (now (rows .exit)) × Spare (now (plan .entry)) (now (ahead .exit)) ⌝ }
+    requires { ⌜ Plain (now plan) bodies × (records ≡ record-count (now plan)) × (offset < length-of (arrays-of (now plan)) (array .0)) × (c ≡ cell-at (now plan) (array .0) offset) × (c < 4096) × Room (now plan) c (now rows) × Spare (now plan) (now ahead) ⌝ }
+    ensures { λ k. ⌜ Least (record-of k) (λ r. StopsAt (plan-of (now (plan .entry))) r c) × Room (now (plan .entry)) (c + 1) (now (rows .exit)) × Spare (now (plan .entry)) (now (ahead .exit)) ⌝ }
 {
     look_ahead(plan, bodies, records, array, offset, ahead);
-    let start = Found {
-        set: only(START),
-        low: NONE,
-    };
     let t = block(
         plan,
         bodies,
-        array,
-        offset,
         rows,
         ahead,
         c as u32 + 1,
-        start,
+        only(START),
+        NONE,
         0,
         records,
     );

@@ -24,7 +24,11 @@ use Rattle.first_loop.specs.Inner.Turned.{Loops, FirstLoop, AfterTurns}
 use Rattle.summary.proofs.Ways.{ran-from, Begins, start-in}
 
 module _ (f : List ℕ) where
-  -- array 0 has a cell
+  -- cell 0 is the first cell of array 0
+  pub first-cell : 0 ≡ cell-at f 0 0
+  first-cell = omega (arith, first-zero (arrays-of f))
+
+  -- which has a cell
   pub first-inside : (bodies : ℕ) → Plain f bodies → 0 < length-of (arrays-of f) 0
   first-inside bodies w =
       let b = opened-facts f (w .opens) .bounds in
@@ -40,11 +44,8 @@ module _ (f : List ℕ) where
       record { ends = rw (z, e); below = omega (arith, s .inside); walk = rw z (s .one) }
 
   -- the turns of it
-  pub first-turns : (class n second : ℕ) (start t : Found) (rows : List ℕ) → Begins (start .set) → start .low ≡ 65535 → Body f 0 second →
-      Repeated f (cell-at f 0 0) class (block-between f 1 second) n start rows t → FirstLoop f n t
-  first-turns class n second start t rows b e w m =
-      let z : cell-at f 0 0 ≡ 0 = omega (arith, first-zero (arrays-of f)) in
-      ran-from (start-in (start .set) b) (rw (z, w .ends, e) at (m .ran))
+  pub first-turns : (class n second set : ℕ) (t : Found) (rows : List ℕ) → Begins set → Body f 0 second → Repeated f 0 class (block-between f 1 second) n set 65535 rows t → FirstLoop f n t
+  first-turns class n second set t rows b w m = ran-from (start-in set b) (rw (w .ends) at (m .ran))
 
   -- the test whether the plan is plain and has a record
   module _ (kind records : ℕ) (ek : kind ≡ kind-of f) (er : records ≡ record-count f) where

@@ -55,19 +55,14 @@ fn turned_with(
     ensures { λ t. ⌜ FirstLoop (now (plan .entry)) turns t ⌝ }
 {
     look_ahead(plan, bodies, records, Array(0), 0, ahead);
-    let start = Found {
-        set: only(START),
-        low: NONE,
-    };
     fixed(
         plan,
         bodies,
-        Array(0),
-        0,
         rows,
         ahead,
         1,
-        start,
+        only(START),
+        NONE,
         turns,
         0,
         second,

@@ -16,7 +16,7 @@ use Rattle.reading.specs.Bytes.{arrays-of, record-count}
 use Rattle.format.specs.Inner.Walks.{block-between}
 use Rattle.statuses.specs.declared.acts.Found.{Found}
 use Rattle.statuses.specs.Inner.Sets.{statuses, index, bit, In, Union}
-use Rattle.summary.specs.Inner.Ways.{Kept, Room, Exact, Body, nest, Passed}
+use Rattle.summary.specs.Inner.Ways.{Kept, Room, Exact, cell-of, Ready, Body, nest, Passed}
 use Rattle.statuses.proofs.Statuses.{index-below}
 use Rattle.summary.proofs.Ways.{Found-in, ran-from, ran-branch}
 
@@ -33,6 +33,19 @@ module _ (f : List ℕ) where
 
   pub room-later : (rows : List ℕ) (class later : ℕ) → class ≤ later → Room f class rows → Room f later rows
   room-later rows class later h m = record { long = m .long; old = λ i. let l = m .old i in omega arith }
+
+-- a walk that was ready still is, with the rows that another walk left
+pub ready-again : {f ahead rows rows′ : List ℕ} {bodies class low low′ : ℕ} → Ready f bodies ahead class rows low → Exact f (cell-of class) class rows′ low′ → Ready f bodies ahead class rows′ low′
+ready-again p x = record {
+  plain = p .plain;
+  array = p .array;
+  offset = p .offset;
+  is = p .is;
+  inside = p .inside;
+  leads = p .leads;
+  small = p .small;
+  exact = x;
+}
 
 module _ (f : List ℕ) (c class : ℕ) where
   -- no row is of a class that begins
@@ -68,20 +81,20 @@ module _ (f : List ℕ) (c class : ℕ) where
         }
 
     -- it is found and kept
-    pub row-kept : (rows : List ℕ) (low y : ℕ) (t start : Found) → y / 65536 ≡ class → y % 65536 ≡ t .set →
-        ((i : ℕ) → i < statuses → bit (start .set) i ≡ eqb i w) → start .low ≡ low →
-        Passed f c class (block-between f (r + 1) second) (In (start .set)) (start .low) rows t →
+    pub row-kept : (rows : List ℕ) (low y one : ℕ) (t : Found) → y / 65536 ≡ class → y % 65536 ≡ t .set →
+        ((i : ℕ) → i < statuses → bit one i ≡ eqb i w) →
+        Passed f c class (block-between f (r + 1) second) (In one) low rows t →
         Passed f c class (block-between f (r + 1) second) (λ u. index u ≡ w) low (set rows (16 * r + w) y) t
-    row-kept rows low y t start ec es o el p = record { ran = ran; exact = record { row = row; room = record { long = simp length-set (p .exact .room .long); old = old } } }
+    row-kept rows low y one t ec es o p = record { ran = ran; exact = record { row = row; room = record { long = simp length-set (p .exact .room .long); old = old } } }
       where
-        to : (u : Status) → In (start .set) u → index u ≡ w
+        to : (u : Status) → In one u → index u ≡ w
         to u e = eqb-true _ _ (sym (o (index u) (index-below u)) ∙ e)
 
-        back : (u : Status) → index u ≡ w → In (start .set) u
+        back : (u : Status) → index u ≡ w → In one u
         back u e = o (index u) (index-below u) ∙ eq-eqb _ _ e
 
         ran : Found-in (arrays-of f) c (block-between f (r + 1) second) (λ u. index u ≡ w) low t
-        ran = rw (← el) (ran-from (λ u. (to u, back u)) (p .ran))
+        ran = ran-from (λ u. (to u, back u)) (p .ran)
 
         past : (j : ℕ) → length rows ≤ j → _≡_ {A = ℕ} (getD (set rows (16 * r + w) y) j 0) 0
         past j l = List·getD-eq-default (set rows (16 * r + w) y) 0 (simp length-set l)
@@ -105,11 +118,10 @@ module _ (f : List ℕ) (c class : ℕ) where
         ]
 
   -- a branch: its arms one after the other, each from the same statuses
-  pub passed-branch : (kind r : ℕ) (x y : Block) (rows rows′ : List ℕ) (start again one two t : Found) → kind ≡ 6 → again .set ≡ start .set → again .low ≡ one .low →
-      Union (t .set) (one .set) (two .set) → t .low ≡ two .low →
-      Passed f c class x (In (start .set)) (start .low) rows one → Passed f c class y (In (again .set)) (again .low) rows′ two → Passed f c class (nest kind r x y) (In (start .set)) (start .low) rows′ t
-  passed-branch kind r x y rows rows′ start again one two t e es el ts tl p q = record {
-    ran = rw (eq-eqb kind 6 e) (ran-branch (arrays-of f) c x y (In (start .set)) (start .low) one two (p .ran) r (rw (← es, ← el) (q .ran)) t ts tl);
+  pub passed-branch : (kind r : ℕ) (x y : Block) (rows rows′ : List ℕ) (from : Status → Type 0) (low : ℕ) (one two t : Found) → kind ≡ 6 → Union (t .set) (one .set) (two .set) → t .low ≡ two .low →
+      Passed f c class x from low rows one → Passed f c class y from (one .low) rows′ two → Passed f c class (nest kind r x y) from low rows′ t
+  passed-branch kind r x y rows rows′ from low one two t e ts tl p q = record {
+    ran = rw (eq-eqb kind 6 e) (ran-branch (arrays-of f) c x y from low one two (p .ran) r (q .ran) t ts tl);
     exact = rw tl (q .exact);
   }
 

@@ -32,12 +32,9 @@ pub record Skipped (f : List ℕ) (c r m end : ℕ) : Type 0 where
   pub walk : Walkable f m end
   pub later : r ≤ m
 
-module _ (f : List ℕ) (bodies : ℕ) (w : Plain f bodies) (array offset : ℕ) (inside : offset < length-of (arrays-of f) array) (ahead : List ℕ) (a : Ahead f array offset 0 ahead) where
+module _ (f : List ℕ) (bodies : ℕ) (w : Plain f bodies) (c array offset : ℕ) (is : c ≡ cell-at f array offset) (inside : offset < length-of (arrays-of f) array) (ahead : List ℕ) (a : Ahead f array offset 0 ahead) where
   abbrev at : ℕ → ℕ
   at k = getD ahead k 0
-
-  abbrev c : ℕ
-  c = cell-at f array offset
 
   -- the record concerns the cell, or its entry is that of the next place
   abbrev Own : ℕ → Type 0
@@ -92,7 +89,7 @@ module _ (f : List ℕ) (bodies : ℕ) (w : Plain f bodies) (array offset : ℕ)
     skip-act : fields-at f r .kind < 6 → covers (fields-at f r) array offset ≡ false → Skipped f c (r + 1) m end → Skipped f c r m end
     skip-act k e t = record {
       passed = act r (action-of (fields-at f r)) (t .passed);
-      untouched = (act-covers (fields-at f r) (known .low, omega arith) f array offset inside ∙ e, t .untouched);
+      untouched = (rw is (act-covers (fields-at f r) (known .low, omega arith) f array offset inside) ∙ e, t .untouched);
       joins = ap (act r (action-of (fields-at f r))) (t .joins) ∙ sym (next-act (fields-at f r) (known .low, omega arith) f r end h g refl);
       walk = t .walk;
       later = omega (arith, t .later);

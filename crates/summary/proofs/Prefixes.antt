@@ -57,23 +57,22 @@ module _ (f : List ℕ) (c from end : ℕ) (start : Found) where
   pub prefix-skip : (t : Found) (r next : ℕ) → Prefix f c from r end start t → Skipped f c r next end → Prefix f c from next end start t
   prefix-skip t r next p s = prefix-more t t r next (s .passed) p (sym (s .joins)) (ran-skip (arrays-of f) c (s .passed) (s .untouched) t)
 
--- record r, whose fields x were read, for cell `offset` of an array
-module _ (f : List ℕ) (array offset from end r : ℕ) (inside : offset < length-of (arrays-of f) array)
-    (h : r < end) (g : Walkable f r end) (x : Fields) (e : x ≡ fields-at f r) (start t t′ : Found) (p : Prefix f (cell-at f array offset) from r end start t) where
+-- record r, whose fields x were read, for cell c
+module _ (f : List ℕ) (c from end r : ℕ) (h : r < end) (g : Walkable f r end) (x : Fields) (e : x ≡ fields-at f r) (start t t′ : Found) (p : Prefix f c from r end start t) where
   -- it covers the cell
-  pub step-act : (1 ≤ x .kind) × (x .kind ≤ 5) → covers x array offset ≡ true →
+  pub step-act : (array offset : ℕ) → c ≡ cell-at f array offset → offset < length-of (arrays-of f) array → (1 ≤ x .kind) × (x .kind ≤ 5) → covers x array offset ≡ true →
       Ran (λ u v. touched-after (x .kind) (side-of (x .side)) u ≡ v) (λ u n. (r ≡ n) × (touched-met (x .kind) (side-of (x .side)) u ≡ false)) (In (t .set)) (t .low) t′ →
-      Prefix f (cell-at f array offset) from (r + 1) end start t′
-  step-act k u m = prefix-more f (cell-at f array offset) from end start t t′ r (r + 1) (act r (action-of x) done) p (next-act x k f r end h g e)
-      (ran-touched (arrays-of f) (cell-at f array offset) r (action-of x) t t′ (act-covers x k f array offset inside ∙ u) (rw (act-kind x k, act-side x k) m))
+      Prefix f c from (r + 1) end start t′
+  step-act array offset is inside k u m = prefix-more f c from end start t t′ r (r + 1) (act r (action-of x) done) p (next-act x k f r end h g e)
+      (ran-touched (arrays-of f) c r (action-of x) t t′ (rw is (act-covers x k f array offset inside) ∙ u) (rw (act-kind x k, act-side x k) m))
 
   module _ (low : 6 ≤ x .kind) (high : x .kind ≤ 7) (i j : ℕ) (ei : i ≡ first-arm x) (ej : j ≡ second-arm x) where
-    pub step-arms : Found-in (arrays-of f) (cell-at f array offset) (nest (x .kind) r (block-between f (r + 1) (r + 1 + i)) (block-between f (r + 1 + i) (r + 1 + i + j))) (In (t .set)) (t .low) t′ →
-        Prefix f (cell-at f array offset) from (r + 1 + i + j) end start t′
+    pub step-arms : Found-in (arrays-of f) c (nest (x .kind) r (block-between f (r + 1) (r + 1 + i)) (block-between f (r + 1 + i) (r + 1 + i + j))) (In (t .set)) (t .low) t′ →
+        Prefix f c from (r + 1 + i + j) end start t′
     step-arms m =
         let first = block-between f (r + 1) (r + 1 + i) in
         let second = block-between f (r + 1 + i) (r + 1 + i + j) in
         elim (ℕᴺ-discrete (x .kind) 6) [
-          | yes z ↦ prefix-more f (cell-at f array offset) from end start t t′ r (r + 1 + i + j) (branch r first second done) p (rw (ei, ej) (block-branch f r end h g x e z)) (rw (eq-eqb (x .kind) 6 z) at m)
-          | no z ↦ prefix-more f (cell-at f array offset) from end start t t′ r (r + 1 + i + j) (loop r first done) p (rw (ei, ej) (block-loop f r end h g x e (omega arith))) (rw (ne-eqb (x .kind) 6 z) at m)
+          | yes z ↦ prefix-more f c from end start t t′ r (r + 1 + i + j) (branch r first second done) p (rw (ei, ej) (block-branch f r end h g x e z)) (rw (eq-eqb (x .kind) 6 z) at m)
+          | no z ↦ prefix-more f c from end start t t′ r (r + 1 + i + j) (loop r first done) p (rw (ei, ej) (block-loop f r end h g x e (omega arith))) (rw (ne-eqb (x .kind) 6 z) at m)
         ]

@@ -6,9 +6,7 @@ ghost use Rattle.model.specs.Blocks.{done, loop};
 ghost use Rattle.reading.specs.Bytes.{record-count};
 ghost use Rattle.format.specs.Inner.Walks.{Walkable, block-between};
 ghost use Rattle.statuses.specs.Inner.Sets.{statuses, index, In};
-ghost use Rattle.lookahead.specs.Inner.Ahead.{cell-at};
-ghost use Rattle.summary.specs.Inner.Ways.{Ready, Body, nest, Passed};
-use model::Array;
+ghost use Rattle.summary.specs.Inner.Ways.{cell-of, Ready, Body, nest, Passed};
 use reading::first_arm;
 use reading::kinds::BRANCH;
 use reading::record_at;
@@ -41,8 +39,6 @@ fn exits_of(row: u32) -> u16
 pub fn row_of(
     plan: &[u8],
     bodies: usize,
-    array: Array,
-    offset: usize,
     rows: &mut [u32],
     ahead: &[usize],
     class: u32,
@@ -51,8 +47,8 @@ pub fn row_of(
     second: usize,
     w: usize,
 ) -> Found
-    requires { ⌜ Ready (now plan) bodies (array .0) offset (now ahead) class (now rows) low × Body (now plan) r second × (w < statuses) ⌝ }
-    ensures { λ t. ⌜ Passed (now (plan .entry)) (cell-at (now (plan .entry)) (array .0) offset) class (block-between (now (plan .entry)) (r + 1) second) (λ u. index u ≡ w) low (now (rows .exit)) t ⌝ }
+    requires { ⌜ Ready (now plan) bodies (now ahead) class (now rows) low × Body (now plan) r second × (w < statuses) ⌝ }
+    ensures { λ t. ⌜ Passed (now (plan .entry)) (cell-of class) class (block-between (now (plan .entry)) (r + 1) second) (λ u. index u ≡ w) low (now (rows .exit)) t ⌝ }
 {
     let at = 16 * r + w;
     let known = rows[at];
@@ -62,19 +58,14 @@ pub fn row_of(
             low: low,
         };
     }
-    let start = Found {
-        set: only(w),
-        low: low,
-    };
     let t = block(
         plan,
         bodies,
-        array,
-        offset,
         rows,
         ahead,
         class,
-        start,
+        only(w),
+        low,
         r + 1,
         second,
     );
@@ -86,36 +77,23 @@ pub fn row_of(
 fn turned(
     plan: &[u8],
     bodies: usize,
-    array: Array,
-    offset: usize,
     rows: &mut [u32],
     ahead: &[usize],
     class: u32,
-    start: Found,
+    set: u16,
+    low: u16,
     r: usize,
     second: usize,
 ) -> Found
-    requires { ⌜ Ready (now plan) bodies (array .0) offset (now ahead) class (now rows) (start .low) × Body (now plan) r second ⌝ }
-    ensures { λ t. ⌜ Passed (now (plan .entry)) (cell-at (now (plan .entry)) (array .0) offset) class (loop r (block-between (now (plan .entry)) (r + 1) second) done) (In (start .set)) (start .low) (now (rows .exit)) t ⌝ }
+    requires { ⌜ Ready (now plan) bodies (now ahead) class (now rows) low × Body (now plan) r second ⌝ }
+    ensures { λ t. ⌜ Passed (now (plan .entry)) (cell-of class) class (loop r (block-between (now (plan .entry)) (r + 1) second) done) (In set) low (now (rows .exit)) t ⌝ }
 {
-    let mut t = start;
+    let mut t = Found { set: set, low: low };
     let mut looked = EMPTY;
-    let mut todo = start.set;
+    let mut todo = set;
     while todo != EMPTY {
         let w = lowest(todo);
-        let row = row_of(
-            plan,
-            bodies,
-            array,
-            offset,
-            rows,
-            ahead,
-            class,
-            t.low,
-            r,
-            second,
-            w,
-        );
+        let row = row_of(plan, bodies, rows, ahead, class, t.low, r, second, w);
         t = Found {
             set: union(t.set, row.set),
             low: row.low,
@@ -130,113 +108,72 @@ fn turned(
 fn nested(
     plan: &[u8],
     bodies: usize,
-    array: Array,
-    offset: usize,
     rows: &mut [u32],
     ahead: &[usize],
     class: u32,
-    start: Found,
+    set: u16,
+    low: u16,
     kind: u8,
     r: usize,
     second: usize,
     next: usize,
 ) -> Found
-    requires { ⌜ Ready (now plan) bodies (array .0) offset (now ahead) class (now rows) (start .low) × Body (now plan) r second × (second ≤ next) × (next ≤ record-count (now plan)) × Walkable (now plan) second next ⌝ }
-    ensures { λ t. ⌜ Passed (now (plan .entry)) (cell-at (now (plan .entry)) (array .0) offset) class (nest kind r (block-between (now (plan .entry)) (r + 1) second) (block-between (now (plan .entry)) second next)) (In (start .set)) (start .low) (now (rows .exit)) t ⌝ }
+    requires { ⌜ Ready (now plan) bodies (now ahead) class (now rows) low × Body (now plan) r second × (second ≤ next) × (next ≤ record-count (now plan)) × Walkable (now plan) second next ⌝ }
+    ensures { λ t. ⌜ Passed (now (plan .entry)) (cell-of class) class (nest kind r (block-between (now (plan .entry)) (r + 1) second) (block-between (now (plan .entry)) second next)) (In set) low (now (rows .exit)) t ⌝ }
 {
     if kind == BRANCH {
-        let one = block(
-            plan,
-            bodies,
-            array,
-            offset,
-            rows,
-            ahead,
-            class,
-            start,
-            r + 1,
-            second,
-        );
-        let again = Found {
-            set: start.set,
-            low: one.low,
-        };
-        let two = block(
-            plan,
-            bodies,
-            array,
-            offset,
-            rows,
-            ahead,
-            class,
-            again,
-            second,
-            next,
-        );
+        let one = block(plan, bodies, rows, ahead, class, set, low, r + 1, second);
+        let two = block(plan, bodies, rows, ahead, class, set, one.low, second, next);
         return Found {
             set: union(one.set, two.set),
             low: two.low,
         };
     }
-    turned(
-        plan,
-        bodies,
-        array,
-        offset,
-        rows,
-        ahead,
-        class,
-        start,
-        r,
-        second,
-    )
+    turned(plan, bodies, rows, ahead, class, set, low, r, second)
 }
 
-// The records from `from` up to `end`, for cell `offset` of an array: those that concern it, one after the other.
+// The records from `from` up to `end`, for the cell of a class: those that concern it, one after the other.
 pub fn block(
     plan: &[u8],
     bodies: usize,
-    array: Array,
-    offset: usize,
     rows: &mut [u32],
     ahead: &[usize],
     class: u32,
-    start: Found,
+    set: u16,
+    low: u16,
     from: usize,
     end: usize,
 ) -> Found
-    requires { ⌜ Ready (now plan) bodies (array .0) offset (now ahead) class (now rows) (start .low) × (from ≤ end) × (end ≤ record-count (now plan)) × Walkable (now plan) from end ⌝ }
-    ensures { λ t. ⌜ Passed (now (plan .entry)) (cell-at (now (plan .entry)) (array .0) offset) class (block-between (now (plan .entry)) from end) (In (start .set)) (start .low) (now (rows .exit)) t ⌝ }
+    requires { ⌜ Ready (now plan) bodies (now ahead) class (now rows) low × (from ≤ end) × (end ≤ record-count (now plan)) × Walkable (now plan) from end ⌝ }
+    ensures { λ t. ⌜ Passed (now (plan .entry)) (cell-of class) class (block-between (now (plan .entry)) from end) (In set) low (now (rows .exit)) t ⌝ }
 {
-    let mut t = start;
+    let mut t = Found { set: set, low: low };
     let mut at = from;
-    let mut r = ahead[from];
-    while r < end {
+    loop {
+        let r = ahead[at];
+        if end <= r {
+            return t;
+        }
         let x = record_at(plan, bodies, r);
         if BRANCH <= x.kind {
             let second = r + 1 + first_arm(x);
-            let next = second + second_arm(x);
+            at = second + second_arm(x);
             t = nested(
                 plan,
                 bodies,
-                array,
-                offset,
                 rows,
                 ahead,
                 class,
-                t,
+                t.set,
+                t.low,
                 x.kind,
                 r,
                 second,
-                next,
+                at,
             );
-            at = next;
-            r = ahead[next];
         } else {
             t = acted(t, x.kind, x.side, r as u16);
             at = r + 1;
-            r = ahead[at];
         }
     }
-    t
 }

@@ -7,8 +7,8 @@ use native.Mathlib.Omega.{arith}
 use native.Mathlib.Numerals.{add-one}
 use native.Mathlib.Decide.{decLt}
 use native.Nat.{ℕᴺ-discrete}
-use lib.Dec.{eqb}
-use borrow.Author.Tests.{eqb-true}
+use lib.Dec.{eqb, ltb}
+use borrow.Author.Tests.{eqb-true, ltb-true}
 use Rattle.model.specs.Sides.{Arrays}
 use Rattle.model.specs.Blocks.{Block}
 use Rattle.model.proofs.Booleans.{and-out}
@@ -120,22 +120,16 @@ module _ (arrays : Arrays) (c : ℕ) (x : Block) (start : Found) where
     least = λ m w r l. absurd (omega arith);
   }
 
-  -- n turns are done: those of the statement are among those that were looked at, or have the same ends
-  done : (n i before : ℕ) (t s : Found) → Turns i before t → i ≤ n → s .low ≡ t .low → ((v : Status) → In (s .set) v ↔ Image n v) →
-      ((m : ℕ) → m < n → (k : ℕ) × (k < i) × ((v : Status) → Image m v → Image k v)) →
-      Ran (Power (Goes arrays c x) n) (StopsWithin (Goes arrays c x) (Stops arrays c x) n) (In (start .set)) (start .low) s
-  done n i before t s m l el es again = record {
-    exits = es;
-    lower = omega (arith, m .lower);
-    named = elim (m .named) [
-      | inl e ↦ inl (el ∙ e)
-      | inr p ↦ let q = p .2 in inr (q .1 .0, q .1 .1, (p .0, omega (arith, p .1), (q .0, q .1 .2, rw el (q .2))))
-    ];
-    least = λ u r e p. let k = again (p .0) (p .1) in let b = m .least (k .0) (p .2 .0) r (k .1) (k .2 (p .2 .0) (u, e, p .2 .1)) (p .2 .2) in (omega arith, omega arith);
-  }
-
+  -- n turns are done
   pub turns-all : (n i before : ℕ) (t : Found) → Turns i before t → i ≤ n → n ≤ i → Ran (Power (Goes arrays c x) n) (StopsWithin (Goes arrays c x) (Stops arrays c x) n) (In (start .set)) (start .low) t
-  turns-all n i before t m l h = let e : i ≡ n = omega arith in done n i before t t m l refl (rw e at (m .ends)) (λ k j. (k, omega arith, λ v p. p))
+  turns-all n i before t m l h =
+      let e : n ≡ i = omega arith in
+      rw e (record {
+        exits = m .ends;
+        lower = m .lower;
+        named = elim (m .named) [ inl d ↦ inl d | inr p ↦ let q = p .2 in inr (q .1 .0, q .1 .1, (p .0, p .1, (q .0, q .1 .2, q .2))) ];
+        least = λ u r d p. m .least (p .0) (p .2 .0) r (p .1) (u, d, p .2 .1) (p .2 .2);
+      })
 
   -- two numbers of turns with the same ends
   abbrev Same : ℕ → ℕ → Type 0
@@ -158,11 +152,6 @@ module _ (arrays : Arrays) (c : ℕ) (x : Block) (start : Found) where
 
   same-equal : (m n : ℕ) → n ≡ m → Same m n
   same-equal m n e v = rw e (λ p. p, λ p. p)
-
-  same-one : (i : ℕ) → Same i (suc i) → (k n : ℕ) → n ≡ i + k → Same i n
-  same-one i h zero n e = same-equal i n (omega arith)
-  same-one i h (suc k) zero e = absurd (omega arith)
-  same-one i h (suc k) (suc n) e = same-then i (suc i) (suc n) h (same-next i n (same-one i h k n (omega arith)))
 
   same-two : (j : ℕ) → Same j (suc (suc j)) → (k n : ℕ) → n ≡ j + 2 * k → Same j n
   same-two j h zero n e = same-equal j n (omega arith)
@@ -195,27 +184,8 @@ module _ (arrays : Arrays) (c : ℕ) (x : Block) (start : Found) where
           | no z ↦ let e : k ≡ i = omega arith in o .least w r (m .ends w .1 (rw e at p)) s
         ]
 
-    pub turns-more : Turns (i + 1) (t .set) next
-    turns-more = rw add-one next-turns
-
-    -- the set is the same after this turn: so it is after every one
-    pub turns-one : (n : ℕ) → i < n → next .set ≡ t .set → Ran (Power (Goes arrays c x) n) (StopsWithin (Goes arrays c x) (Stops arrays c x) n) (In (start .set)) (start .low) next
-    turns-one n l e = done n (suc i) (t .set) next next next-turns l refl ends again
-      where
-        one : Same i (suc i)
-        one v = (λ p. next-turns .ends v .0 (rw e (m .ends v .1 p)), λ p. m .ends v .0 (rw e at (next-turns .ends v .1 p)))
-
-        ends : (v : Status) → In (next .set) v ↔ Image n v
-        ends v = let s = same-one i one (n - i) n (omega arith) v in (λ d. s .0 (m .ends v .0 (rw e at d)), λ p. rw e (m .ends v .1 (s .1 p)))
-
-        again : (k : ℕ) → k < n → (j : ℕ) × (j < suc i) × ((v : Status) → Image k v → Image j v)
-        again k h = elim (decLt k (suc i)) [
-          | yes z ↦ (k, z, λ v p. p)
-          | no z ↦ (i, omega arith, λ v. same-one i one (k - i) k (omega arith) v .1)
-        ]
-
-  -- it is that of one turn earlier: so it is after every second one
-  module _ (j before : ℕ) (t next : Found) (m : Turns (suc j) before t) (o : Found-in arrays c x (In (t .set)) (t .low) next) (n : ℕ) (l : suc j < n) (e : next .set ≡ before) where
+  -- the set after this turn is that of one turn before it: so it is after every second turn
+  module _ (j before : ℕ) (t next : Found) (m : Turns (suc j) before t) (o : Found-in arrays c x (In (t .set)) (t .low) next) (e : next .set ≡ before) where
     later : Turns (suc (suc j)) (t .set) next
     later = next-turns (suc j) before t next m o
 
@@ -226,8 +196,9 @@ module _ (arrays : Arrays) (c : ℕ) (x : Block) (start : Found) where
     odd k zero h = absurd (omega arith)
     odd k (suc q) h = same-next j q (same-two j two k q (omega arith))
 
-    again : (k : ℕ) → k < n → (q : ℕ) × (q < suc (suc j)) × ((v : Status) → Image k v → Image q v)
-    again k b = elim (decLt k (suc (suc j))) [
+    -- each turn has the ends of one of the first
+    early : (k : ℕ) → (q : ℕ) × (q < suc (suc j)) × ((v : Status) → Image k v → Image q v)
+    early k = elim (decLt k (suc (suc j))) [
       | yes z ↦ (k, z, λ v p. p)
       | no z ↦ elim (ℕᴺ-discrete ((k - j) % 2) 0) [
         | yes y ↦ (j, omega arith, λ v. same-two j two ((k - j) / 2) k (omega arith) v .1)
@@ -235,24 +206,24 @@ module _ (arrays : Arrays) (c : ℕ) (x : Block) (start : Found) where
       ]
     ]
 
-    even-left : (n - suc j) % 2 ≡ 1 → Ran (Power (Goes arrays c x) n) (StopsWithin (Goes arrays c x) (Stops arrays c x) n) (In (start .set)) (start .low) next
-    even-left y = done n (suc (suc j)) (t .set) next next later l refl ends again
+    over : (n : ℕ) → suc (suc j) ≤ n → (n - suc (suc j)) % 2 ≡ 0 → Turns n (t .set) next
+    over n l y = record {
+      ends = λ v. let s = same-two j two ((n - j) / 2) n (omega arith) v in (λ d. s .0 (m .earlier j refl v .0 (rw e at d)), λ p. rw e (m .earlier j refl v .1 (s .1 p)));
+      earlier = λ q h v. let s = odd ((q - suc j) / 2) q (omega arith) v in (λ d. s .0 (m .ends v .0 d), λ p. m .ends v .1 (s .1 p));
+      lower = later .lower;
+      named = elim (later .named) [ inl d ↦ inl d | inr p ↦ inr (p .0, omega (arith, p .1), p .2) ];
+      least = λ k w r h p s. let q = early k in later .least (q .0) w r (q .1) (q .2 w p) s;
+    }
+
+  module _ (i before : ℕ) (t next : Found) (m : Turns i before t) (o : Found-in arrays c x (In (t .set)) (t .low) next) (n : ℕ) (l : i + 1 ≤ n) (y : (n - (i + 1)) % 2 ≡ 0) where
+    -- one turn more, and an even number of those that are left where the sets repeat
+    pub turns-on : ((ltb 0 i && eqb (next .set) before) ≡ false → n ≡ i + 1) → Turns n (t .set) next
+    turns-on h = go (ltb 0 i && eqb (next .set) before) refl
       where
-        ends : (v : Status) → In (next .set) v ↔ Image n v
-        ends v = let s = same-two j two ((n - j) / 2) n (omega arith) v in (λ d. s .0 (m .earlier j refl v .0 (rw e at d)), λ p. rw e (m .earlier j refl v .1 (s .1 p)))
-
-    odd-left : ((n - suc j) % 2 ≡ 1 → ⊥) → (s : Found) → s .set ≡ t .set → s .low ≡ next .low → Ran (Power (Goes arrays c x) n) (StopsWithin (Goes arrays c x) (Stops arrays c x) n) (In (start .set)) (start .low) s
-    odd-left y s es el = done n (suc (suc j)) (t .set) next s later l el ends again
-      where
-        ends : (v : Status) → In (s .set) v ↔ Image n v
-        ends v = let q = odd ((n - suc j) / 2) n (omega arith) v in (λ d. q .0 (m .ends v .0 (rw es at d)), λ p. rw es (m .ends v .1 (q .1 p)))
-
-  pub turns-even : (i before : ℕ) (t next : Found) → Turns i before t → Found-in arrays c x (In (t .set)) (t .low) next → (n : ℕ) → i < n → 0 < i → next .set ≡ before →
-      (n - i) % 2 ≡ 1 → Ran (Power (Goes arrays c x) n) (StopsWithin (Goes arrays c x) (Stops arrays c x) n) (In (start .set)) (start .low) next
-  turns-even zero before t next m o n l h e y = absurd (omega arith)
-  turns-even (suc j) before t next m o n l h e y = even-left j before t next m o n l e y
-
-  pub turns-odd : (i before : ℕ) (t next : Found) → Turns i before t → Found-in arrays c x (In (t .set)) (t .low) next → (n : ℕ) → i < n → 0 < i → next .set ≡ before →
-      ((n - i) % 2 ≡ 1 → ⊥) → (s : Found) → s .set ≡ t .set → s .low ≡ next .low → Ran (Power (Goes arrays c x) n) (StopsWithin (Goes arrays c x) (Stops arrays c x) n) (In (start .set)) (start .low) s
-  turns-odd zero before t next m o n l h e y s es el = absurd (omega arith)
-  turns-odd (suc j) before t next m o n l h e y s es el = odd-left j before t next m o n l e y s es el
+        go : (b : Bool) → (ltb 0 i && eqb (next .set) before) ≡ b → Turns n (t .set) next
+        go false q = rw (h q, add-one) (next-turns i before t next m o)
+        go true q = let p = and-out (ltb 0 i) (eqb (next .set) before) q in repeats i m (ltb-true 0 i (p .0)) (eqb-true (next .set) before (p .1)) l y
+          where
+            repeats : (i : ℕ) → Turns i before t → 0 < i → next .set ≡ before → i + 1 ≤ n → (n - (i + 1)) % 2 ≡ 0 → Turns n (t .set) next
+            repeats zero m h e l y = absurd (omega arith)
+            repeats (suc j) m h e l y = over j before t next m o e n (omega arith) (omega arith)

@@ -45,7 +45,7 @@ sub-stop-of : tie.Need-sub-stop-of Inv-loop μ-loop
 sub-stop-of c = search needs
 
 stop-of-requires : tie.Need-stop-of-requires Inv-loop μ-loop
-stop-of-requires c κs = let n = here (c .before .before .before .before .before .before) in let p = c .before .before .before .before .before .before .before .before .before .pre in (p .0, p .1, omega (arith, n .size), omega (arith, n .limit), c .before .before .before .before .before .loop .inv .3, c .before .before .before .before .before .loop .inv .5)
+stop-of-requires c κs = let n = here (c .before .before .before .before .before .before) in let p = c .before .before .before .before .before .before .before .before .before .pre in (p .0, p .1, omega (arith, n .size), omega (arith, p .3 .begins), omega (arith, n .limit), c .before .before .before .before .before .loop .inv .3, c .before .before .before .before .before .loop .inv .5)
 
 cast-t25 : tie.Need-cast-t25 Inv-loop μ-loop
 cast-t25 c = let n = here (c .before .before .before .before .before .before .before .before .before .before .before) in search needs

@@ -7,10 +7,9 @@ use Rattle.reading.specs.Bytes.{arrays-of}
 use Rattle.format.specs.Inner.Walks.{Walkable, block-between}
 use Rattle.format.proofs.Walking.{opened-facts}
 use Rattle.format.proofs.Acts.{record-inside, Here, here, Arms, arms, after-act}
-use Rattle.lookahead.specs.Inner.Ahead.{cell-at}
-use Rattle.summary.specs.Inner.Ways.{Exact}
+use Rattle.summary.specs.Inner.Ways.{cell-of, Exact}
 use Rattle.summary.proofs.Turns.{Turning, turning-none, turning-all, turning-new, turning-more}
-use Rattle.summary.proofs.Keeping.{exact-lower, row-known, row-kept, passed-branch, passed-loop}
+use Rattle.summary.proofs.Keeping.{exact-lower, ready-again, row-known, row-kept, passed-branch, passed-loop}
 use Rattle.summary.proofs.Passing.{Skipped, skip-on, skip-rest, skip-to}
 use Rattle.summary.proofs.Prefixes.{Prefix, body-here, prefix-none, prefix-all, prefix-skip, step-act, step-arms}
 use borrow.Fn.Kinds.{In}
@@ -42,16 +41,16 @@ use Rattle.summary.proofs.+block+nested+row_of+turned.{statement}
 use Rattle.summary.proofs.+block+nested+row_of+turned.Tie.{close}
 
 abbrev μ-block : Measures 3 block-kinds.ps ℕ
-μ-block κs a = 4 * (a .1 .1 .1 .1 .1 .1 .1 .1 .1 .0 - a .1 .1 .1 .1 .1 .1 .1 .1 .0)
+μ-block κs a = 4 * (a .1 .1 .1 .1 .1 .1 .1 .1 .0 - a .1 .1 .1 .1 .1 .1 .1 .0)
 
 abbrev μ-nested : Measures 3 nested-kinds.ps ℕ
-μ-nested κs a = 4 * (a .1 .1 .1 .1 .1 .1 .1 .1 .1 .1 .1 .0 - (a .1 .1 .1 .1 .1 .1 .1 .1 .1 .0 + 1)) + 3
+μ-nested κs a = 4 * (a .1 .1 .1 .1 .1 .1 .1 .1 .1 .1 .0 - (a .1 .1 .1 .1 .1 .1 .1 .1 .0 + 1)) + 3
 
 abbrev μ-row-of : Measures 3 row-of-kinds.ps ℕ
-μ-row-of κs a = 4 * (a .1 .1 .1 .1 .1 .1 .1 .1 .1 .0 - (a .1 .1 .1 .1 .1 .1 .1 .1 .0 + 1)) + 1
+μ-row-of κs a = 4 * (a .1 .1 .1 .1 .1 .1 .1 .0 - (a .1 .1 .1 .1 .1 .1 .0 + 1)) + 1
 
 abbrev μ-turned : Measures 3 turned-kinds.ps ℕ
-μ-turned κs a = 4 * (a .1 .1 .1 .1 .1 .1 .1 .1 .1 .0 - (a .1 .1 .1 .1 .1 .1 .1 .1 .0 + 1)) + 2
+μ-turned κs a = 4 * (a .1 .1 .1 .1 .1 .1 .1 .1 .0 - (a .1 .1 .1 .1 .1 .1 .1 .0 + 1)) + 2
 
 abbrev block-at : ℕ → In 3 block-kinds.ps
 block-at t = and 3 block-kinds.ps (is 3 block-kinds.ps μ-block t) block.Pre
@@ -78,17 +77,16 @@ abbrev turned-below : ℕ → In 3 turned-kinds.ps
 turned-below t = and 3 turned-kinds.ps (falls 3 turned-kinds.ps _<_ μ-turned t) turned.Pre
 
 abbrev block-Inv-loop : block-lts.InvT-loop
-block-Inv-loop plan bodies array offset rows₀ ahead class from end t₀ at₀ r₀ rows t at r =
+block-Inv-loop plan bodies rows₀ ahead class set low from end t₀ at₀ rows t at =
     (from ≤ at)
     × (at ≤ end)
     × Walkable plan at end
-    × Prefix plan (cell-at plan (array .0) offset) from at end t₀ t
-    × Exact plan (cell-at plan (array .0) offset) class rows (t .low)
+    × Prefix plan (cell-of class) from at end t₀ t
+    × Exact plan (cell-of class) class rows (t .low)
     × (length rows ≡ length rows₀)
-    × (r ≡ getD ahead at 0)
 
 abbrev block-μ-loop : block-lts.MeasureT-loop
-block-μ-loop plan bodies array offset rows₀ ahead class from end t₀ at₀ r₀ rows t at r = end - at
+block-μ-loop plan bodies rows₀ ahead class set low from end t₀ at₀ rows t at = end - at
 
 -- what each callee asks and gives, those of the cycle below t
 abbrev block-calls : ℕ → block-lts.Claims
@@ -104,20 +102,20 @@ abbrev turned-calls : ℕ → turned-lts.Claims
 turned-calls t = (lowest-reads.Asked, lowest-reads.Learnt, row-of-below t, row-of.Post, union-reads.Asked, union-reads.Learnt, with-reads.Asked, with-reads.Learnt, without-reads.Asked, without-reads.Learnt)
 
 -- the walk has passed by what leaves the cell alone, up to record r
-passing : (t : ℕ) (c : block-lts.In-loop (block-calls t) (block-at t) block.Post block-Inv-loop block-μ-loop) → Skipped (c .before .before .before .before .before .before .args .plan .now) (cell-at (c .before .before .before .before .before .before .args .plan .now) (c .before .before .before .before .before .before .args .array .0) (c .before .before .before .before .before .before .args .offset)) (c .before .loop .at) (c .before .loop .r) (c .before .before .before .before .before .before .args .end)
+passing : (t : ℕ) (c : block-lts.Else1 (block-calls t) (block-at t) block.Post block-Inv-loop block-μ-loop) → Skipped (c .before .before .before .before .before .before .args .plan .now) (cell-of (c .before .before .before .before .before .before .args .class)) (c .before .before .loop .at) (getD (c .before .before .before .before .before .before .args .ahead .now) (c .before .before .loop .at) 0) (c .before .before .before .before .before .before .args .end)
 passing t c =
     let p = c .before .before .before .before .before .before .pre .1 in
-    let i = c .before .loop .inv in
-    skip-on (c .before .before .before .before .before .before .args .plan .now) _ (p .0 .plain) _ _ (p .0 .inside) _ (p .0 .leads) _ _ _ (i .2) (p .2) (i .1) (i .6) (c .loop-test .taken)
+    let i = c .before .before .loop .inv in
+    skip-on (c .before .before .before .before .before .before .args .plan .now) _ (p .0 .plain) _ _ _ (p .0 .is) (p .0 .inside) _ (p .0 .leads) _ _ _ (i .2) (p .2) (i .1) refl (c .if1 .left)
 
 -- what is known of record r once its fields are read
-known : (t : ℕ) (c : block-lts.After-struct-known (block-calls t) (block-at t) block.Post block-Inv-loop block-μ-loop) → Here (c .before .before .before .before .before .before .before .before .args .plan .now) (c .before .before .before .loop .r) (c .before .before .before .before .before .before .before .before .args .end) (c .before .record-at .result)
+known : (t : ℕ) (c : block-lts.After-struct-known (block-calls t) (block-at t) block.Post block-Inv-loop block-μ-loop) → Here (c .before .before .before .before .before .before .before .before .args .plan .now) (getD (c .before .before .before .before .before .before .before .before .args .ahead .now) (c .before .before .before .before .loop .at) 0) (c .before .before .before .before .before .before .before .before .args .end) (c .before .record-at .result)
 known t c =
     let p = c .before .before .before .before .before .before .before .before .pre .1 in
-    here (c .before .before .before .before .before .before .before .before .args .plan .now) (c .before .before .before .before .before .before .before .before .args .bodies) (c .before .before .before .loop .r) (c .before .before .before .before .before .before .before .before .args .end) (p .0 .plain) (c .before .before .loop-test .taken) (p .2) (passing t (c .before .before) .walk) _ (c .before .record-at .ensures)
+    here (c .before .before .before .before .before .before .before .before .args .plan .now) (c .before .before .before .before .before .before .before .before .args .bodies) _ (c .before .before .before .before .before .before .before .before .args .end) (p .0 .plain) (c .before .before .if1 .left) (p .2) (passing t (c .before .before) .walk) _ (c .before .record-at .ensures)
 
 -- and of its arms
-known-arms : (t : ℕ) (c : block-lts.After-second-arm (block-calls t) (block-at t) block.Post block-Inv-loop block-μ-loop) → Arms (c .before .before .before .before .before .before .before .before .before .before .before .args .plan .now) (c .before .before .before .before .before .before .loop .r) (c .before .before .before .before .before .before .before .before .before .before .before .args .end) (c .before .first-arm .result) (c .second-arm .result)
+known-arms : (t : ℕ) (c : block-lts.After-second-arm (block-calls t) (block-at t) block.Post block-Inv-loop block-μ-loop) → Arms (c .before .before .before .before .before .before .before .before .before .before .before .args .plan .now) (getD (c .before .before .before .before .before .before .before .before .before .before .before .args .ahead .now) (c .before .before .before .before .before .before .before .loop .at) 0) (c .before .before .before .before .before .before .before .before .before .before .before .args .end) (c .before .first-arm .result) (c .second-arm .result)
 known-arms t c = arms (known t (c .before .before .before) .steps) _ _ (c .before .first-arm .ensures .0) (c .second-arm .ensures .0)
 
 -- there are few records, and the table has a row for each
@@ -126,111 +124,96 @@ few t c =
     let p = c .before .before .before .pre .1 in
     (omega (arith, opened-facts _ (p .0 .plain .opens) .bounds .records, p .1 .ends, p .1 .below), omega (arith, p .0 .exact .room .long, p .1 .ends, p .1 .below))
 
+block-loop-holds : (t : ℕ) → block-lts.Need-loop-holds (block-calls t) (block-at t) block.Post block-Inv-loop block-μ-loop
+block-loop-holds t c = let p = c .before .before .before .pre .1 in (omega arith, p .1, p .3, prefix-none _ _ _ _ _, p .0 .exact, refl)
+
 block-mul-r : (t : ℕ) → block-lts.Need-mul-r (block-calls t) (block-at t) block.Post block-Inv-loop block-μ-loop
-block-mul-r t c = let p = c .before .before .before .pre .1 in let n = opened-facts _ (p .0 .plain .opens) .bounds .records in let s = p .0 .leads .spare .long in omega (arith, n)
+block-mul-r t c = let p = c .before .before .before .before .pre .1 in omega (arith, opened-facts _ (p .0 .plain .opens) .bounds .records, p .2, c .loop .inv .1)
 
 block-shared-slice-read-r : (t : ℕ) → block-lts.Need-shared-slice-read-r (block-calls t) (block-at t) block.Post block-Inv-loop block-μ-loop
-block-shared-slice-read-r t c = let p = c .before .before .before .before .pre .1 in let n = opened-facts _ (p .0 .plain .opens) .bounds .records in let s = p .0 .leads .spare .long in omega (arith, s)
+block-shared-slice-read-r t c = let p = c .before .before .before .before .before .pre .1 in omega (arith, p .0 .leads .spare .long, p .2, c .before .loop .inv .1)
 
-block-loop-holds : (t : ℕ) → block-lts.Need-loop-holds (block-calls t) (block-at t) block.Post block-Inv-loop block-μ-loop
-block-loop-holds t c = let p = c .before .before .before .before .pre .1 in (search needs, search needs, p .3, prefix-none _ _ _ _ _, p .0 .exact, refl, refl)
+block-same-length : (t : ℕ) → block-lts.Need-same-length (block-calls t) (block-at t) block.Post block-Inv-loop block-μ-loop
+block-same-length t c = c .before .before .loop .inv .5
+
+block-returns : (t : ℕ) → block-lts.Need-returns (block-calls t) (block-at t) block.Post block-Inv-loop block-μ-loop
+block-returns t c =
+    let l = c .before .before .loop in
+    let p = c .before .before .before .before .before .before .pre .1 in
+    let s = skip-rest _ _ (p .0 .plain) _ _ _ (p .0 .is) (p .0 .inside) _ (p .0 .leads) _ _ _ (l .inv .2) (p .2) (l .inv .1) refl (c .if1 .taken) in
+    record { ran = prefix-all _ _ _ _ _ _ _ (omega arith) (prefix-skip _ _ _ _ _ _ _ _ (l .inv .3) s); exact = l .inv .4 }
 
 block-record-at-requires : (t : ℕ) → block-lts.Need-record-at-requires (block-calls t) (block-at t) block.Post block-Inv-loop block-μ-loop
-block-record-at-requires t c κs = let p = c .before .before .before .before .before .before .pre .1 in (p .0 .plain .place, record-inside _ _ (p .0 .plain) (c .before .loop .r) (omega (arith, p .2)))
+block-record-at-requires t c κs = let p = c .before .before .before .before .before .before .pre .1 in (p .0 .plain .place, record-inside _ _ (p .0 .plain) _ (omega (arith, c .if1 .left, p .2)))
 
 block-add-second : (t : ℕ) → block-lts.Need-add-second (block-calls t) (block-at t) block.Post block-Inv-loop block-μ-loop
-block-add-second t c = let n = known t (c .before) .few in search needs
+block-add-second t c = omega (arith, known t (c .before) .few)
 
 block-first-arm-requires : (t : ℕ) → block-lts.Need-first-arm-requires (block-calls t) (block-at t) block.Post block-Inv-loop block-μ-loop
-block-first-arm-requires t c κs = search needs
+block-first-arm-requires t c κs = tt
 
 block-add-second-2 : (t : ℕ) → block-lts.Need-add-second-2 (block-calls t) (block-at t) block.Post block-Inv-loop block-μ-loop
 block-add-second-2 t c = let n = known t (c .before .before) .few in search needs
 
 block-second-arm-requires : (t : ℕ) → block-lts.Need-second-arm-requires (block-calls t) (block-at t) block.Post block-Inv-loop block-μ-loop
-block-second-arm-requires t c κs = search needs
+block-second-arm-requires t c κs = tt
 
-block-add-next : (t : ℕ) → block-lts.Need-add-next (block-calls t) (block-at t) block.Post block-Inv-loop block-μ-loop
-block-add-next t c = let n = known t (c .before .before .before) .few in search needs
+block-add-at : (t : ℕ) → block-lts.Need-add-at (block-calls t) (block-at t) block.Post block-Inv-loop block-μ-loop
+block-add-at t c = let n = known t (c .before .before .before) .few in search needs
 
 block-nested-requires : (t : ℕ) → block-lts.Need-nested-requires (block-calls t) (block-at t) block.Post block-Inv-loop block-μ-loop
 block-nested-requires t c κs =
     let n = known-arms t (c .before) in
     let w = c .before .before .before .before .before .before .before .before .before .before .before .before .pre in
-    let l = c .before .before .before .before .before .before .before .loop in
+    let l = c .before .before .before .before .before .before .before .before .loop in
     let k = passing t (c .before .before .before .before .before .before) in
-    (omega (arith, w .0, l .inv .0, k .later, n .inside), (record { plain = w .1 .0 .plain; inside = w .1 .0 .inside; leads = w .1 .0 .leads; small = w .1 .0 .small; exact = l .inv .4 }, body-here _ _ _ _ _ _ (c .before .before .before .before .before .record-at .ensures) (c .before .before .first-arm .ensures .0) (w .1 .2) n, omega arith, omega (arith, n .inside, w .1 .2), n .two))
-
-block-mul-r-2 : (t : ℕ) → block-lts.Need-mul-r-2 (block-calls t) (block-at t) block.Post block-Inv-loop block-μ-loop
-block-mul-r-2 t c = let p = c .before .before .before .before .before .before .before .before .before .before .before .before .before .before .before .pre .1 in let n = opened-facts _ (p .0 .plain .opens) .bounds .records in let s = p .0 .leads .spare .long in let a = known-arms t (c .before .before .before .before) .inside in omega (arith, n, p .2)
-
-block-shared-slice-read-r-2 : (t : ℕ) → block-lts.Need-shared-slice-read-r-2 (block-calls t) (block-at t) block.Post block-Inv-loop block-μ-loop
-block-shared-slice-read-r-2 t c = let p = c .before .before .before .before .before .before .before .before .before .before .before .before .before .before .before .before .pre .1 in let n = opened-facts _ (p .0 .plain .opens) .bounds .records in let s = p .0 .leads .spare .long in let a = known-arms t (c .before .before .before .before .before) .inside in omega (arith, s, p .2)
+    (omega (arith, w .0, l .inv .0, k .later, n .inside), (ready-again (w .1 .0) (l .inv .4), body-here _ _ _ _ _ _ (c .before .before .before .before .before .record-at .ensures) (c .before .before .first-arm .ensures .0) (w .1 .2) n, omega arith, omega (arith, n .inside, w .1 .2), n .two))
 
 block-loop-less : (t : ℕ) → block-lts.Need-loop-less (block-calls t) (block-at t) block.Post block-Inv-loop block-μ-loop
-block-loop-less t c = let n = known-arms t (c .before .before .before .before .before) in let k = passing t (c .before .before .before .before .before .before .before .before .before .before) in omega (arith, n .inside, k .later)
+block-loop-less t c = let n = known-arms t (c .before .before .before .before) in let k = passing t (c .before .before .before .before .before .before .before .before .before) in omega (arith, n .inside, k .later)
 
 block-loop-again : (t : ℕ) → block-lts.Need-loop-again (block-calls t) (block-at t) block.Post block-Inv-loop block-μ-loop
 block-loop-again t c =
-    let n = known-arms t (c .before .before .before .before .before) in
-    let k = known t (c .before .before .before .before .before .before .before .before) in
-    let s = passing t (c .before .before .before .before .before .before .before .before .before .before) in
-    let w = c .before .before .before .before .before .before .before .before .before .before .before .before .before .before .before .before .pre .1 in
+    let n = known-arms t (c .before .before .before .before) in
+    let k = known t (c .before .before .before .before .before .before .before) in
+    let s = passing t (c .before .before .before .before .before .before .before .before .before) in
     let l = c .before .before .before .before .before .before .before .before .before .before .before .loop in (
       omega (arith, l .inv .0, s .later),
       n .inside,
       n .rest,
-      step-arms _ _ _ _ _ _ (w .0 .inside) (c .before .before .before .before .before .before .before .before .before .before .loop-test .taken) (s .walk) _ (c .before .before .before .before .before .before .before .before .before .record-at .ensures) _ _ _ (prefix-skip _ _ _ _ _ _ _ _ (l .inv .3) s) (c .before .before .before .before .before .before .before .if1 .taken) (k .high) _ _ (c .before .before .before .before .before .before .first-arm .ensures .0) (c .before .before .before .before .before .second-arm .ensures .0) (c .before .before .before .nested .ensures .ran),
-      c .before .before .before .nested .ensures .exact,
-      c .before .before .before .nested .kept .1 .1 .1 .1 .0 ∙ l .inv .5,
-      refl,
+      step-arms _ _ _ _ _ (c .before .before .before .before .before .before .before .before .before .if1 .left) (s .walk) _ (c .before .before .before .before .before .before .before .before .record-at .ensures) _ _ _ (prefix-skip _ _ _ _ _ _ _ _ (l .inv .3) s) (c .before .before .before .before .before .before .if2 .taken) (k .high) _ _ (c .before .before .before .before .before .first-arm .ensures .0) (c .before .before .before .before .second-arm .ensures .0) (c .before .before .nested .ensures .ran),
+      c .before .before .nested .ensures .exact,
+      c .before .before .nested .kept .1 .1 .0 ∙ l .inv .5,
     )
 
 block-cast-acted : (t : ℕ) → block-lts.Need-cast-acted (block-calls t) (block-at t) block.Post block-Inv-loop block-μ-loop
-block-cast-acted t c = let n = known t (c .before) .few in search needs
+block-cast-acted t c = omega (arith, known t (c .before) .few)
 
 block-acted-requires : (t : ℕ) → block-lts.Need-acted-requires (block-calls t) (block-at t) block.Post block-Inv-loop block-μ-loop
 block-acted-requires t c κs = let n = known t (c .before) in (n .low, omega arith, n .side (omega arith), omega (arith, n .few))
 
-block-add-at : (t : ℕ) → block-lts.Need-add-at (block-calls t) (block-at t) block.Post block-Inv-loop block-μ-loop
-block-add-at t c = let n = known t (c .before .before) .few in search needs
-
-block-mul-r-3 : (t : ℕ) → block-lts.Need-mul-r-3 (block-calls t) (block-at t) block.Post block-Inv-loop block-μ-loop
-block-mul-r-3 t c = let p = c .before .before .before .before .before .before .before .before .before .before .pre .1 in let n = opened-facts _ (p .0 .plain .opens) .bounds .records in let s = p .0 .leads .spare .long in omega (arith, n, p .2)
-
-block-shared-slice-read-r-3 : (t : ℕ) → block-lts.Need-shared-slice-read-r-3 (block-calls t) (block-at t) block.Post block-Inv-loop block-μ-loop
-block-shared-slice-read-r-3 t c = let p = c .before .before .before .before .before .before .before .before .before .before .before .pre .1 in let n = opened-facts _ (p .0 .plain .opens) .bounds .records in let s = p .0 .leads .spare .long in omega (arith, s, p .2)
+block-add-at-2 : (t : ℕ) → block-lts.Need-add-at-2 (block-calls t) (block-at t) block.Post block-Inv-loop block-μ-loop
+block-add-at-2 t c = omega (arith, known t (c .before .before) .few)
 
 block-loop-less-2 : (t : ℕ) → block-lts.Need-loop-less-2 (block-calls t) (block-at t) block.Post block-Inv-loop block-μ-loop
-block-loop-less-2 t c = let k = passing t (c .before .before .before .before .before) in omega (arith, k .later)
+block-loop-less-2 t c = omega (arith, passing t (c .before .before .before .before) .later, c .before .before .before .before .if1 .left)
 
 block-loop-again-2 : (t : ℕ) → block-lts.Need-loop-again-2 (block-calls t) (block-at t) block.Post block-Inv-loop block-μ-loop
 block-loop-again-2 t c =
-    let k = known t (c .before .before .before) in
-    let s = passing t (c .before .before .before .before .before) in
+    let k = known t (c .before .before) in
+    let s = passing t (c .before .before .before .before) in
     let l = c .before .before .before .before .before .before .loop in
-    let p = c .before .before .before .before .before .before .before .before .before .before .before .pre .1 in
-    let low : c .before .before .before .before .record-at .result .kind ≤ 5 = omega arith in (
+    let p = c .before .before .before .before .before .before .before .before .before .before .pre .1 in
+    let low : c .before .before .before .record-at .result .kind ≤ 5 = omega arith in (
       omega (arith, l .inv .0, s .later),
-      omega arith,
+      omega (arith, c .before .before .before .before .if1 .left),
       after-act (k .steps) low,
-      step-act _ _ _ _ _ _ (p .0 .inside) (c .before .before .before .before .before .loop-test .taken) (s .walk) _ (c .before .before .before .before .record-at .ensures) _ _ _ (prefix-skip _ _ _ _ _ _ _ _ (l .inv .3) s) (k .low, low)
-          (skip-to _ _ (p .0 .plain) _ _ (p .0 .inside) _ (p .0 .leads) _ _ _ (l .inv .2) (p .2) (l .inv .1) (l .inv .6) (c .before .before .before .before .before .loop-test .taken) _ (c .before .before .before .before .record-at .ensures) (omega arith))
-          (c .before .acted .ensures),
-      exact-lower _ _ _ _ _ _ (c .before .acted .ensures .lower) (l .inv .4),
+      step-act _ _ _ _ _ (c .before .before .before .before .if1 .left) (s .walk) _ (c .before .before .before .record-at .ensures) _ _ _ (prefix-skip _ _ _ _ _ _ _ _ (l .inv .3) s) _ _ (p .0 .is) (p .0 .inside) (k .low, low)
+          (skip-to _ _ (p .0 .plain) _ _ _ (p .0 .is) (p .0 .inside) _ (p .0 .leads) _ _ _ (l .inv .2) (p .2) (l .inv .1) refl (c .before .before .before .before .if1 .left) _ (c .before .before .before .record-at .ensures) (omega arith))
+          (c .acted .ensures),
+      exact-lower _ _ _ _ _ _ (c .acted .ensures .lower) (l .inv .4),
       l .inv .5,
-      refl,
     )
-
-block-same-length : (t : ℕ) → block-lts.Need-same-length (block-calls t) (block-at t) block.Post block-Inv-loop block-μ-loop
-block-same-length t c = c .before .loop .inv .5
-
-block-returns : (t : ℕ) → block-lts.Need-returns (block-calls t) (block-at t) block.Post block-Inv-loop block-μ-loop
-block-returns t c =
-    let l = c .before .loop in
-    let p = c .before .before .before .before .before .before .pre .1 in
-    let s = skip-rest _ _ (p .0 .plain) _ _ (p .0 .inside) _ (p .0 .leads) _ _ _ (l .inv .2) (p .2) (l .inv .1) (l .inv .6) (omega arith) in
-    record { ran = prefix-all _ _ _ _ _ _ _ (omega arith) (prefix-skip _ _ _ _ _ _ _ _ (l .inv .3) s); exact = l .inv .4 }
 
 nested-add-block : (t : ℕ) → nested-lts.Need-add-block (nested-calls t) (nested-at t) nested.Post
 nested-add-block t c = search needs
@@ -241,22 +224,24 @@ nested-block-requires t c κs =
     (omega (arith, w .0, w .1 .1 .ends, w .1 .2), (w .1 .0, omega (arith, w .1 .1 .ends), w .1 .1 .below, w .1 .1 .walk))
 
 nested-block-requires-2 : (t : ℕ) → nested-lts.Need-block-requires-2 (nested-calls t) (nested-at t) nested.Post
-nested-block-requires-2 t c κs = search needs
+nested-block-requires-2 t c κs =
+    let w = c .before .before .before .before .before .before .before .before .before .pre in
+    (omega (arith, w .0, w .1 .1 .ends, w .1 .2), (ready-again (w .1 .0) (c .before .before .before .block .ensures .exact), w .1 .2, w .1 .3, w .1 .4))
 
 nested-union-requires : (t : ℕ) → nested-lts.Need-union-requires (nested-calls t) (nested-at t) nested.Post
-nested-union-requires t c κs = search needs
+nested-union-requires t c κs = tt
 
 nested-same-length : (t : ℕ) → nested-lts.Need-same-length (nested-calls t) (nested-at t) nested.Post
-nested-same-length t c = c .before .before .before .block2 .kept .1 .1 .1 .1 .0 ∙ c .before .before .before .before .before .before .before .block .kept .1 .1 .1 .1 .0
+nested-same-length t c = c .before .before .before .block2 .kept .1 .1 .0 ∙ c .before .before .before .before .before .before .before .block .kept .1 .1 .0
 
 nested-returns : (t : ℕ) → nested-lts.Need-returns (nested-calls t) (nested-at t) nested.Post
-nested-returns t c = passed-branch _ _ _ _ _ _ _ _ _ _ _ _ _ _ (c .before .before .before .before .before .before .before .before .before .if1 .taken) refl refl (c .union .ensures) refl (c .before .before .before .before .before .before .before .block .ensures) (c .before .before .before .block2 .ensures)
+nested-returns t c = passed-branch _ _ _ _ _ _ _ _ _ _ _ _ _ _ (c .before .before .before .before .before .before .before .before .before .if1 .taken) (c .union .ensures) refl (c .before .before .before .before .before .before .before .block .ensures) (c .before .before .before .block2 .ensures)
 
 nested-turned-requires : (t : ℕ) → nested-lts.Need-turned-requires (nested-calls t) (nested-at t) nested.Post
-nested-turned-requires t c κs = search needs
+nested-turned-requires t c κs = let w = c .before .before .before .before .before .pre in (omega (arith, w .0, w .1 .2), (w .1 .0, w .1 .1))
 
 nested-same-length-2 : (t : ℕ) → nested-lts.Need-same-length-2 (nested-calls t) (nested-at t) nested.Post
-nested-same-length-2 t c = c .before .before .turned .kept .1 .1 .1 .1 .0
+nested-same-length-2 t c = c .before .before .turned .kept .1 .1 .0
 
 nested-returns-2 : (t : ℕ) → nested-lts.Need-returns-2 (nested-calls t) (nested-at t) nested.Post
 nested-returns-2 t c = passed-loop _ _ _ _ _ _ _ _ _ _ _ (c .before .before .before .before .if1 .left) (c .before .before .turned .ensures)
@@ -274,13 +259,13 @@ row-of-slice-read-known : (t : ℕ) → row-of-lts.Need-slice-read-known (row-of
 row-of-slice-read-known t c = let n = few t (c .before) in search needs
 
 row-of-exits-of-requires : (t : ℕ) → row-of-lts.Need-exits-of-requires (row-of-calls t) (row-of-at t) row-of.Post
-row-of-exits-of-requires t c κs = search needs
+row-of-exits-of-requires t c κs = tt
 
 row-of-returns : (t : ℕ) → row-of-lts.Need-returns (row-of-calls t) (row-of-at t) row-of.Post
 row-of-returns t c = let p = c .before .before .before .before .before .before .pre .1 in row-known _ _ _ _ _ _ (p .2) (p .1) _ _ _ (p .0 .exact) (c .before .if1 .taken) (c .exits-of .ensures) refl
 
 row-of-only-requires : (t : ℕ) → row-of-lts.Need-only-requires (row-of-calls t) (row-of-at t) row-of.Post
-row-of-only-requires t c κs = search needs
+row-of-only-requires t c κs = c .before .before .before .before .before .before .pre .1 .2
 
 row-of-add-block : (t : ℕ) → row-of-lts.Need-add-block (row-of-calls t) (row-of-at t) row-of.Post
 row-of-add-block t c = search needs
@@ -294,27 +279,27 @@ row-of-packed-requires : (t : ℕ) → row-of-lts.Need-packed-requires (row-of-c
 row-of-packed-requires t c κs = c .before .before .before .before .before .before .before .before .before .before .pre .1 .0 .small
 
 row-of-mul-rows : (t : ℕ) → row-of-lts.Need-mul-rows (row-of-calls t) (row-of-at t) row-of.Post
-row-of-mul-rows t c = let n = few t (c .before .before .before .before .before .before .before .before) in let l = c .before .before .before .block .kept .1 .1 .1 .1 .0 in search needs
+row-of-mul-rows t c = let n = few t (c .before .before .before .before .before .before .before .before) in let l = c .before .before .before .block .kept .1 .1 .0 in search needs
 
 row-of-slice-write-rows : (t : ℕ) → row-of-lts.Need-slice-write-rows (row-of-calls t) (row-of-at t) row-of.Post
-row-of-slice-write-rows t c = let n = few t (c .before .before .before .before .before .before .before .before) in let l = c .before .before .before .block .kept .1 .1 .1 .1 .0 in search needs
+row-of-slice-write-rows t c = let n = few t (c .before .before .before .before .before .before .before .before) in let l = c .before .before .before .block .kept .1 .1 .0 in search needs
 
 row-of-same-length : (t : ℕ) → row-of-lts.Need-same-length (row-of-calls t) (row-of-at t) row-of.Post
-row-of-same-length t c = simp length-set (c .before .before .before .block .kept .1 .1 .1 .1 .0)
+row-of-same-length t c = simp length-set (c .before .before .before .block .kept .1 .1 .0)
 
 row-of-returns-2 : (t : ℕ) → row-of-lts.Need-returns-2 (row-of-calls t) (row-of-at t) row-of.Post
 row-of-returns-2 t c =
     let p = c .before .before .before .before .before .before .before .before .before .before .before .pre .1 in
-    row-kept _ _ _ _ _ _ (p .2) (p .1) _ _ _ _ _ (c .packed .ensures .0) (c .packed .ensures .1) (c .before .before .before .before .before .only .ensures) refl (c .before .before .before .block .ensures)
+    row-kept _ _ _ _ _ _ (p .2) (p .1) _ _ _ _ _ (c .packed .ensures .0) (c .packed .ensures .1) (c .before .before .before .before .only .ensures) (c .before .before .before .block .ensures)
 
 abbrev turned-Inv-loop : turned-lts.InvT-loop
-turned-Inv-loop plan bodies array offset rows₀ ahead class r second t₀ looked₀ todo₀ rows t looked todo =
-    Turning (arrays-of plan) (cell-at plan (array .0) offset) (block-between plan (r + 1) second) t₀ t looked todo
-    × Exact plan (cell-at plan (array .0) offset) class rows (t .low)
+turned-Inv-loop plan bodies rows₀ ahead class set low r second t₀ looked₀ todo₀ rows t looked todo =
+    Turning (arrays-of plan) (cell-of class) (block-between plan (r + 1) second) t₀ t looked todo
+    × Exact plan (cell-of class) class rows (t .low)
     × (length rows ≡ length rows₀)
 
 abbrev turned-μ-loop : turned-lts.MeasureT-loop
-turned-μ-loop plan bodies array offset rows₀ ahead class r second t₀ looked₀ todo₀ rows t looked todo = 65535 - looked
+turned-μ-loop plan bodies rows₀ ahead class set low r second t₀ looked₀ todo₀ rows t looked todo = 65535 - looked
 
 turned-loop-holds : (t : ℕ) → turned-lts.Need-loop-holds (turned-calls t) (turned-at t) turned.Post turned-Inv-loop turned-μ-loop
 turned-loop-holds t c = (turning-none _ _ _ _, c .before .before .before .pre .1 .0 .exact, refl)
@@ -323,10 +308,10 @@ turned-lowest-requires : (t : ℕ) → turned-lts.Need-lowest-requires (turned-c
 turned-lowest-requires t c κs = search needs
 
 turned-row-of-requires : (t : ℕ) → turned-lts.Need-row-of-requires (turned-calls t) (turned-at t) turned.Post turned-Inv-loop turned-μ-loop
-turned-row-of-requires t c κs = search needs
+turned-row-of-requires t c κs = let w = c .before .before .before .before .before .before .before .pre in (omega (arith, w .0), (ready-again (w .1 .0) (c .before .before .before .loop .inv .1), w .1 .1, c .before .lowest .ensures .0))
 
 turned-union-requires : (t : ℕ) → turned-lts.Need-union-requires (turned-calls t) (turned-at t) turned.Post turned-Inv-loop turned-μ-loop
-turned-union-requires t c κs = search needs
+turned-union-requires t c κs = tt
 
 turned-with-requires : (t : ℕ) → turned-lts.Need-with-requires (turned-calls t) (turned-at t) turned.Post turned-Inv-loop turned-μ-loop
 turned-with-requires t c κs =
@@ -334,7 +319,7 @@ turned-with-requires t c κs =
     (w .ensures .0, turning-new _ _ _ _ _ _ _ (c .before .before .before .before .before .before .before .loop .inv .0) (w .result) (w .ensures .0) (w .ensures .1))
 
 turned-without-requires : (t : ℕ) → turned-lts.Need-without-requires (turned-calls t) (turned-at t) turned.Post turned-Inv-loop turned-μ-loop
-turned-without-requires t c κs = search needs
+turned-without-requires t c κs = tt
 
 turned-loop-less : (t : ℕ) → turned-lts.Need-loop-less (turned-calls t) (turned-at t) turned.Post turned-Inv-loop turned-μ-loop
 turned-loop-less t c = search needs
@@ -343,7 +328,7 @@ turned-loop-again : (t : ℕ) → turned-lts.Need-loop-again (turned-calls t) (t
 turned-loop-again t c =
     let w = c .before .before .before .before .before .before .before .lowest in
     let r = c .before .before .before .before .before .row-of .ensures in
-    (turning-more _ _ _ _ _ _ _ (c .before .before .before .before .before .before .before .before .before .loop .inv .0) (w .result) (w .ensures .0) (w .ensures .1) _ _ _ _ (r .ran) (c .before .before .union .ensures) refl (c .before .with .ensures .1) (c .without .ensures), r .exact, c .before .before .before .before .before .row-of .kept .1 .1 .1 .1 .0 ∙ c .before .before .before .before .before .before .before .before .before .loop .inv .2)
+    (turning-more _ _ _ _ _ _ _ (c .before .before .before .before .before .before .before .before .before .loop .inv .0) (w .result) (w .ensures .0) (w .ensures .1) _ _ _ _ (r .ran) (c .before .before .union .ensures) refl (c .before .with .ensures .1) (c .without .ensures), r .exact, c .before .before .before .before .before .row-of .kept .1 .1 .0 ∙ c .before .before .before .before .before .before .before .before .before .loop .inv .2)
 
 turned-same-length : (t : ℕ) → turned-lts.Need-same-length (turned-calls t) (turned-at t) turned.Post turned-Inv-loop turned-μ-loop
 turned-same-length t c = c .before .loop .inv .2
@@ -357,29 +342,25 @@ pub +block+nested+row-of+turned-spec : {M : Type 1} → statement M
     block.Post
     block-Inv-loop
     block-μ-loop
+    (block-loop-holds t)
     (block-mul-r t)
     (block-shared-slice-read-r t)
-    (block-loop-holds t)
+    (block-same-length t)
+    (block-returns t)
     (block-record-at-requires t)
     (block-add-second t)
     (block-first-arm-requires t)
     (block-add-second-2 t)
     (block-second-arm-requires t)
-    (block-add-next t)
+    (block-add-at t)
     (block-nested-requires t)
-    (block-mul-r-2 t)
-    (block-shared-slice-read-r-2 t)
     (block-loop-less t)
     (block-loop-again t)
     (block-cast-acted t)
     (block-acted-requires t)
-    (block-add-at t)
-    (block-mul-r-3 t)
-    (block-shared-slice-read-r-3 t)
+    (block-add-at-2 t)
     (block-loop-less-2 t)
-    (block-loop-again-2 t)
-    (block-same-length t)
-    (block-returns t))
+    (block-loop-again-2 t))
     (λ t. nested-lts.spec (nested-calls t)
     (nested-at t)
     nested.Post

@@ -1,5 +1,5 @@
 -- No promise of an entry point rests on this text: what the walk of one cell through a block finds, and the rows that it keeps.
-use Prim.Native.Nat.{ℕ, _+_, _*_, _/_, _%_, _≤_, _<_}
+use Prim.Native.Nat.{ℕ, _+_, _-_, _*_, _/_, _%_, _≤_, _<_}
 use mathlib.Core.Path.{_≡_}
 use mathlib.Core.Logic.{_↔_}
 use mathlib.Core.Bool.{cond}
@@ -36,13 +36,20 @@ pub record Exact (f : List ℕ) (c class : ℕ) (rows : List ℕ) (low : ℕ) : 
   pub row : (k w : ℕ) → w < statuses → getD rows (16 * k + w) 0 / 65536 ≡ class → Kept f c low k w (getD rows (16 * k + w) 0 % 65536)
   pub room : Room f class rows
 
--- a walk of a cell can begin
-pub record Ready (f : List ℕ) (bodies array offset : ℕ) (ahead : List ℕ) (class : ℕ) (rows : List ℕ) (low : ℕ) : Type 0 where
+-- the cell that a class is named after: a class is one more than the number of its first cell, and a row of zeros is of none
+abbrev pub cell-of : ℕ → ℕ
+cell-of class = class - 1
+
+-- the walk of that cell can begin, which is cell `offset` of an array
+pub record Ready (f : List ℕ) (bodies : ℕ) (ahead : List ℕ) (class : ℕ) (rows : List ℕ) (low : ℕ) : Type 0 where
   pub plain : Plain f bodies
+  pub array : ℕ
+  pub offset : ℕ
+  pub is : cell-of class ≡ cell-at f array offset
   pub inside : offset < length-of (arrays-of f) array
   pub leads : Ahead f array offset 0 ahead
   pub small : class < 65536
-  pub exact : Exact f (cell-at f array offset) class rows low
+  pub exact : Exact f (cell-of class) class rows low
 
 -- the body of loop r, or the first arm of branch r, ends at `second`
 pub record Body (f : List ℕ) (r second : ℕ) : Type 0 where

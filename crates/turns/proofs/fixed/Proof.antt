@@ -1,78 +1,54 @@
--- `fixed` meets its contract: after i turns t has the ends of i turns. It is left early where the sets repeat.
+-- `fixed` meets its contract: after i turns t has the ends of i turns, and `before` those of one turn fewer.
 use Prim.Native.Nat.{_+_, _-_, _≤_}
 use mathlib.Core.Path.{_≡_, refl, _∙_}
-use lib.Dec.{ltb, eqb}
+use native.Mathlib.Omega.{arith}
 use lib.ListN.{length}
-use borrow.Author.Tests.{ltb-true, eqb-true}
-use Rattle.model.proofs.Booleans.{and-out}
 use Rattle.reading.specs.Bytes.{arrays-of}
 use Rattle.format.specs.Inner.Walks.{block-between}
-use Rattle.lookahead.specs.Inner.Ahead.{cell-at}
-use Rattle.summary.specs.Inner.Ways.{Exact}
-use Rattle.turns.proofs.Powers.{Turns, turns-none, turns-all, turns-more, turns-one, turns-even, turns-odd}
+use Rattle.summary.specs.Inner.Ways.{cell-of, Exact}
+use Rattle.summary.proofs.Keeping.{ready-again}
+use Rattle.turns.proofs.Powers.{Turns, turns-none, turns-all, turns-on}
 use borrow.Author.Needs.{needs}
 use Rattle.turns.proofs.fixed.Statement.{statement}
 use Rattle.turns.proofs.fixed.Tie as tie
 
 abbrev Inv-loop : tie.InvT-loop
-Inv-loop plan bodies array offset rows₀ ahead class turns r second t₀ before₀ i₀ rows t before i =
+Inv-loop plan bodies rows₀ ahead class set low turns r second t₀ before₀ i₀ rows t before i =
     (i ≤ turns)
-    × Turns (arrays-of plan) (cell-at plan (array .0) offset) (block-between plan (r + 1) second) t₀ i before t
-    × Exact plan (cell-at plan (array .0) offset) class rows (t .low)
+    × Turns (arrays-of plan) (cell-of class) (block-between plan (r + 1) second) t₀ i before t
+    × Exact plan (cell-of class) class rows (t .low)
     × (length rows ≡ length rows₀)
 
 abbrev μ-loop : tie.MeasureT-loop
-μ-loop plan bodies array offset rows₀ ahead class turns r second t₀ before₀ i₀ rows t before i = turns - i
+μ-loop plan bodies rows₀ ahead class set low turns r second t₀ before₀ i₀ rows t before i = turns - i
 
 loop-holds : tie.Need-loop-holds Inv-loop μ-loop
-loop-holds c = (search needs, turns-none _ _ _ _, c .before .before .before .pre .0 .exact, refl)
+loop-holds c = (omega arith, turns-none _ _ _ _, c .before .before .before .pre .0 .exact, refl)
 
 turn-requires : tie.Need-turn-requires Inv-loop μ-loop
-turn-requires c κs = search needs
+turn-requires c κs = let p = c .before .before .before .before .before .before .pre in (ready-again (p .0) (c .before .before .loop .inv .2), p .1)
 
-same-length : tie.Need-same-length Inv-loop μ-loop
-same-length c = c .before .before .before .before .before .turn .kept .1 .1 .1 .1 .0 ∙ c .before .before .before .before .before .before .before .before .loop .inv .3
+add-passed-over : tie.Need-add-passed-over Inv-loop μ-loop
+add-passed-over c = search needs
 
-returns : tie.Need-returns Inv-loop μ-loop
-returns c = let o = c .before .before .before .before .before .turn .ensures in record { ran = turns-one _ _ _ _ _ _ _ _ (c .before .before .before .before .before .before .before .before .loop .inv .1) (o .ran) _ (c .before .before .before .before .before .before .before .loop-test .taken) (c .if1 .taken); exact = o .exact }
-
-sub-if3 : tie.Need-sub-if3 Inv-loop μ-loop
-sub-if3 c = search needs
-
-same-length-2 : tie.Need-same-length-2 Inv-loop μ-loop
-same-length-2 c = c .before .before .before .before .before .before .before .before .turn .kept .1 .1 .1 .1 .0 ∙ c .before .before .before .before .before .before .before .before .before .before .before .loop .inv .3
-
-returns-2 : tie.Need-returns-2 Inv-loop μ-loop
-returns-2 c =
-    let l = c .before .before .before .before .before .before .before .before .before .before .before .loop in
-    let q = c .before .before .before .before .before .before .before .before .turn in
-    let b = and-out (ltb 0 (l .i)) (eqb (q .result .set) (l .before)) (c .before .if2 .taken) in
-    record { ran = turns-even _ _ _ _ _ _ _ _ (l .inv .1) (q .ensures .ran) _ (c .before .before .before .before .before .before .before .before .before .before .loop-test .taken) (ltb-true 0 (l .i) (b .0)) (eqb-true (q .result .set) (l .before) (b .1)) (c .if3 .taken); exact = q .ensures .exact }
-
-same-length-3 : tie.Need-same-length-3 Inv-loop μ-loop
-same-length-3 c = c .before .before .before .before .before .before .before .before .turn .kept .1 .1 .1 .1 .0 ∙ c .before .before .before .before .before .before .before .before .before .before .before .loop .inv .3
-
-returns-3 : tie.Need-returns-3 Inv-loop μ-loop
-returns-3 c =
-    let l = c .before .before .before .before .before .before .before .before .before .before .before .loop in
-    let q = c .before .before .before .before .before .before .before .before .turn in
-    let b = and-out (ltb 0 (l .i)) (eqb (q .result .set) (l .before)) (c .before .if2 .taken) in
-    record { ran = turns-odd _ _ _ _ _ _ _ _ (l .inv .1) (q .ensures .ran) _ (c .before .before .before .before .before .before .before .before .before .before .loop-test .taken) (ltb-true 0 (l .i) (b .0)) (eqb-true (q .result .set) (l .before) (b .1)) (c .if3 .left) _ refl refl; exact = q .ensures .exact }
-
-add-i : tie.Need-add-i Inv-loop μ-loop
-add-i c = search needs
+passed-over-requires : tie.Need-passed-over-requires Inv-loop μ-loop
+passed-over-requires c κs = omega (arith, c .before .before .before .before .before .loop-test .taken)
 
 loop-less : tie.Need-loop-less Inv-loop μ-loop
-loop-less c = search needs
+loop-less c = let e = c .passed-over .ensures in omega (arith, e .0, e .1, c .before .before .before .before .before .before .loop-test .taken)
 
 loop-again : tie.Need-loop-again Inv-loop μ-loop
-loop-again c = let o = c .before .before .before .before .before .before .before .turn .ensures in (search needs, turns-more _ _ _ _ _ _ _ _ (c .before .before .before .before .before .before .before .before .before .before .loop .inv .1) (o .ran), o .exact, c .before .before .before .before .before .before .before .turn .kept .1 .1 .1 .1 .0 ∙ c .before .before .before .before .before .before .before .before .before .before .loop .inv .3)
+loop-again c =
+    let e = c .passed-over .ensures in
+    let o = c .before .before .before .before .turn in
+    let l = c .before .before .before .before .before .before .before .loop in
+    (e .1, turns-on _ _ _ _ _ _ _ _ (l .inv .1) (o .ensures .ran) _ (e .0) (e .2) (e .3), o .ensures .exact, o .kept .1 .1 .0 ∙ l .inv .3)
 
-same-length-4 : tie.Need-same-length-4 Inv-loop μ-loop
-same-length-4 c = c .before .loop .inv .3
+same-length : tie.Need-same-length Inv-loop μ-loop
+same-length c = c .before .loop .inv .3
 
-returns-4 : tie.Need-returns-4 Inv-loop μ-loop
-returns-4 c = let l = c .before .loop in record { ran = turns-all _ _ _ _ _ _ _ _ (l .inv .1) (l .inv .0) (c .loop-test .left); exact = l .inv .2 }
+returns : tie.Need-returns Inv-loop μ-loop
+returns c = let l = c .before .loop in record { ran = turns-all _ _ _ _ _ _ _ _ (l .inv .1) (l .inv .0) (c .loop-test .left); exact = l .inv .2 }
 
 pub fixed-spec : {M : Type 1} → statement M
 fixed-spec =
@@ -82,15 +58,9 @@ fixed-spec =
     μ-loop
     loop-holds
     turn-requires
-    same-length
-    returns
-    sub-if3
-    same-length-2
-    returns-2
-    same-length-3
-    returns-3
-    add-i
+    add-passed-over
+    passed-over-requires
     loop-less
     loop-again
-    same-length-4
-    returns-4)
+    same-length
+    returns)

@@ -20,7 +20,7 @@ Power R (suc n) u v = (w : Status) × R u w × Power R n w v
 abbrev pub StopsWithin : (Status → Status → Type 0) → (Status → ℕ → Type 0) → ℕ → Status → ℕ → Type 0
 StopsWithin R S n u r = (m : ℕ) × (m < n) × ((w : Status) × Power R m u w × S w r)
 
--- t is what is found of n turns of block x
-pub record Repeated (f : List ℕ) (c class : ℕ) (x : Block) (n : ℕ) (start : Found) (rows : List ℕ) (t : Found) : Type 0 where
-  pub ran : Ran (Power (Goes (arrays-of f) c x) n) (StopsWithin (Goes (arrays-of f) c x) (Stops (arrays-of f) c x) n) (In (start .set)) (start .low) t
+-- t is what is found of n turns of block x from the statuses of a set
+pub record Repeated (f : List ℕ) (c class : ℕ) (x : Block) (n set low : ℕ) (rows : List ℕ) (t : Found) : Type 0 where
+  pub ran : Ran (Power (Goes (arrays-of f) c x) n) (StopsWithin (Goes (arrays-of f) c x) (Stops (arrays-of f) c x) n) (In set) low t
   pub exact : Exact f c class rows (t .low)
