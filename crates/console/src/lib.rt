@@ -1,6 +1,6 @@
-// What the programs share: reading a file, a page of output, and the answers as lines and in words.
+// What the programs share: numbers as arguments, a page of output, and the answers as lines and in words.
 pub mod answers;
-pub mod input;
+pub mod arguments;
 pub mod page;
 
 // Says on standard error that something failed, with the system's words for the failure of the last call.

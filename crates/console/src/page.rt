@@ -1,5 +1,7 @@
 // What is to be printed waits in a page, as its first `at` bytes. Each function puts more behind them and answers how many wait then; a page that is
 // full goes to standard output first. Once that fails, `at` is FAILED, and nothing more is taken.
+ghost use Prim.Native.Nat.{_≤_};
+ghost use lib.ListN.{length};
 use libc::STDOUT_FILENO;
 
 pub type Page = [u8; 4096];
@@ -47,15 +49,98 @@ pub fn text(page: &mut Page, at: usize, s: &[u8]) -> usize {
     waiting
 }
 
+// The beginning of a line that stands so many levels in: two spaces a level.
+pub fn indent(page: &mut Page, at: usize, level: usize) -> usize {
+    let mut waiting = at;
+    let mut i = 0;
+    while i < level {
+        waiting = byte(page, waiting, b' ');
+        waiting = byte(page, waiting, b' ');
+        i += 1;
+    }
+    waiting
+}
+
 // A number in decimal.
-pub fn number(page: &mut Page, at: usize, n: u64) -> usize {
+fn number(page: &mut Page, at: usize, n: u64) -> usize {
     let mut digits = [0u8; 20];
     let k = io::decimal(n, &mut digits);
     text(page, at, &digits[..k])
 }
 
-// A text and a number behind it.
-pub fn numbered(page: &mut Page, at: usize, s: &[u8], n: u64) -> usize {
-    let at = text(page, at, s);
-    number(page, at, n)
+// Number i of these, where there is such a number.
+fn one_of(page: &mut Page, at: usize, numbers: &[u64], i: usize) -> usize {
+    if i < numbers.len() {
+        return number(page, at, numbers[i]);
+    }
+    at
+}
+
+// What stands for a byte of a text: number i for `#`, the end of the line for `|`.
+fn item(page: &mut Page, at: usize, b: u8, numbers: &[u64], i: usize) -> usize {
+    if b == b'#' {
+        return one_of(page, at, numbers, i);
+    }
+    byte(page, at, if b == b'|' { b'\n' } else { b })
+}
+
+// The number that is next behind a byte of a text.
+fn next_behind(b: u8, numbers: &[u64], i: usize) -> usize {
+    if i < numbers.len() {
+        return if b == b'#' { i + 1 } else { i };
+    }
+    i
+}
+
+// A text with numbers: `#` stands for the next number, `|` for the end of a line.
+pub fn filled(page: &mut Page, at: usize, s: &[u8], numbers: &[u64]) -> usize {
+    let mut waiting = at;
+    let mut next = 0;
+    let mut i = 0;
+    while i < s.len() {
+        let b = s[i];
+        waiting = item(page, waiting, b, numbers, next);
+        next = next_behind(b, numbers, next);
+        i += 1;
+    }
+    waiting
+}
+
+// Where the line that begins there ends.
+fn row_end(table: &[u8], start: usize) -> usize
+    requires { ⌜ start ≤ length (now table) ⌝ }
+    ensures { λ r. ⌜ (start ≤ r) × (r ≤ length (now (table .entry))) ⌝ }
+{
+    let mut i = start;
+    while i < table.len() {
+        if table[i] == b'\n' {
+            return i;
+        }
+        i += 1;
+    }
+    i
+}
+
+// Where row k of a table begins. A row is a line of the table, behind the two digits of its number and one more character; where the table has no row
+// k, it is the table's end.
+fn row_start(table: &[u8], k: u8) -> usize
+    ensures { λ r. ⌜ r ≤ length (now (table .entry)) ⌝ }
+{
+    let tens = b'0' + k / 10;
+    let ones = b'0' + k % 10;
+    let mut i = 0;
+    while i + 2 < table.len() {
+        if (table[i] == tens) & (table[i + 1] == ones) {
+            return i + 3;
+        }
+        i = row_end(table, i) + 1;
+    }
+    table.len()
+}
+
+// Row k of a table, with numbers; nothing where the table has no such row.
+pub fn row(page: &mut Page, at: usize, table: &[u8], k: u8, numbers: &[u64]) -> usize {
+    let start = row_start(table, k);
+    let end = row_end(table, start);
+    filled(page, at, &table[start..end], numbers)
 }

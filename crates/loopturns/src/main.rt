@@ -4,26 +4,24 @@
 //
 // A status has a number below 16: 8 if the host copy is current, 4 if the card copy is, 2 if the host flag of its array is set, 1 if the card flag is. A set of
 // statuses is printed as the sum of 2 to the number of each: the start, host copy current and host flag set, is status 10, and alone the set 1024.
-use console::input::ROOM;
-use console::input::read_plan;
 use console::page::Page;
+use console::page::filled;
 use console::page::finish;
-use console::page::numbered;
 use console::page::text;
 use first_loop::Turned;
 use first_loop::after_turns;
+use input::ROOM;
+use input::read_plan;
 use statuses::acts::NONE;
 
 // The line for so many turns.
 fn line(page: &mut Page, at: usize, turns: usize, t: Turned) -> usize {
     let found = t.found;
-    let at = numbered(page, at, b"", turns as u64);
-    let at = numbered(page, at, b" ", found.set as u64);
+    let numbers = [turns as u64, found.set as u64, found.low as u64];
     if found.low == NONE {
-        return text(page, at, b" -\n");
+        return filled(page, at, b"# # -|", &numbers);
     }
-    let at = numbered(page, at, b" ", found.low as u64);
-    text(page, at, b"\n")
+    filled(page, at, b"# # #|", &numbers)
 }
 
 // The lines for a plan file of any bytes.

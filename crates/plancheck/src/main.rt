@@ -2,9 +2,9 @@
 // the file's kind (0 if it does not open), the answer (0 accepted), place or record, cell.
 ghost use Rattle.plancheck.specs.Lines.{LineOf};
 use console::answers::answer_line;
-use console::input::ROOM;
-use console::input::read_plan;
 use console::page::finish;
+use input::ROOM;
+use input::read_plan;
 use model::Values;
 use reading::kinds::PLAIN;
 

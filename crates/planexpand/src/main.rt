@@ -3,9 +3,9 @@
 ghost use Rattle.planexpand.specs.Expansions.{ExpansionOf};
 use console::answers::answer_line;
 use console::fail;
-use console::input::ROOM;
-use console::input::read_plan;
 use console::page::print;
+use input::ROOM;
+use input::read_plan;
 use libc::STDERR_FILENO;
 use libc::STDOUT_FILENO;
 use model::Values;

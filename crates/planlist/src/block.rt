@@ -3,10 +3,9 @@ ghost use mathlib.Core.Path.{_≡_};
 ghost use Prim.Native.Nat.{_+_, _*_, _≤_, _<_};
 ghost use lib.ListN.{length};
 ghost use Rattle.planlist.specs.Inner.Bodies.{fields-in, Listable};
-use crate::records::else_line;
-use crate::records::empty_line;
-use crate::records::record_line;
 use console::page::Page;
+use lines::records::else_line;
+use lines::records::record_lines;
 use reading::Fields;
 use reading::byte;
 use reading::first_arm;
@@ -48,10 +47,9 @@ pub fn block(
         let x = record_in(body, r);
         let second = r + 1 + first_arm(x);
         let next = second + second_arm(x);
-        waiting = record_line(page, waiting, level, (first + r) as u16, x);
-        waiting = empty_line(page, waiting, level + 1, x);
+        waiting = record_lines(page, waiting, level, (first + r) as u16, x);
         waiting = block(page, waiting, body, first, level + 1, r + 1, second);
-        waiting = else_line(page, waiting, level, next - second);
+        waiting = else_line(page, waiting, level, second, next);
         waiting = block(page, waiting, body, first, level + 1, second, next);
         r = next;
     }

@@ -2,23 +2,23 @@
 // arguments, a first and an end cell, it prints the memory view of these cells after the run too.
 ghost use mathlib.Core.Path.{_≡_};
 ghost use Rattle.io.specs.Counts.{Counts};
-use console::input::Input;
-use console::input::NO_NUMBER;
-use console::input::ROOM;
-use console::input::number_of;
-use console::input::read_input;
+use console::arguments::NO_NUMBER;
+use console::arguments::number_argument;
 use console::page::Page;
 use console::page::finish;
+use input::Input;
+use input::ROOM;
+use input::read_input;
 use libc::STDERR_FILENO;
 use printing::report_lines;
 use reading::kinds::CELLS;
-use report::cell_count;
-use report::has_begun;
+use report::Ending;
+use report::Report;
 use report::report_of;
+use viewing::cell_count;
 use viewing::plan_view_lines;
 
 mod printing;
-mod report;
 mod viewing;
 
 // One more than the most choices that a run takes, so that a longer file is seen to be longer.
@@ -68,13 +68,6 @@ fn read_argument(i: usize, what: &[u8], room: &mut [u8]) -> Input
     read_file(what, &path[..n], room)
 }
 
-// The number that argument i is, where there is such an argument.
-fn number_argument(i: usize) -> u64 {
-    let mut text = io::buffer();
-    let n = os::arg(i, &mut text);
-    number_of(&text[..n])
-}
-
 // The cells to view, from the third and the fourth argument.
 struct Cells {
     first: u64,
@@ -94,6 +87,17 @@ fn cells_asked() -> Cells {
 fn arguments_fit(cells: Cells) -> bool {
     let numbers = (cells.first != NO_NUMBER) & (cells.end != NO_NUMBER);
     (os::arg_count() == 3) | (cells.asked & numbers)
+}
+
+// Whether the run has begun.
+fn has_begun(r: Report) -> bool {
+    let how = r.ending;
+    match how {
+        Ending::Done => true,
+        Ending::Stopped => true,
+        Ending::Spent => true,
+        Ending::Refused => false,
+    }
 }
 
 // What is printed of a plan, choices, and cells to view.

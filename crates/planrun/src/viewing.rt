@@ -1,14 +1,18 @@
 // The memory view after a run: the stamps of the cells, from whichever side is wholly current.
 ghost use Prim.Native.Nat.{_≤_};
-use crate::report::Memory;
-use console::answers::refusal_words;
+use console::answers::refusal;
 use console::page::Page;
-use console::page::numbered;
-use console::page::text;
-use model::Values;
+use console::page::filled;
 use model::Verdict;
+use model::values_of;
+use reading::kinds::CELLS;
+use report::Memory;
 use view::memory_view;
 use view::memory_view_answer;
+
+fn cell_line(page: &mut Page, at: usize, cell: u64, stamp: u64) -> usize {
+    filled(page, at, b"cell # stamp #|", &[cell, stamp])
+}
 
 // A line for each cell, from cell `first` on.
 fn cell_lines(page: &mut Page, at: usize, first: u64, cells: &[u64]) -> usize {
@@ -17,20 +21,10 @@ fn cell_lines(page: &mut Page, at: usize, first: u64, cells: &[u64]) -> usize {
     while i < cells.len() {
         // Below the view's end, so nothing wraps.
         let cell = std::num::wrapping_add_u64(first, i as u64);
-        waiting = numbered(page, waiting, b"cell ", cell);
-        waiting = numbered(page, waiting, b" stamp ", cells[i]);
-        waiting = text(page, waiting, b"\n");
+        waiting = cell_line(page, waiting, cell, cells[i]);
         i += 1;
     }
     waiting
-}
-
-// The line of a refused view.
-fn refused_line(page: &mut Page, at: usize, v: Values) -> usize {
-    let at = numbered(page, at, b"view refused: ", v.number as u64);
-    let at = text(page, at, b" ");
-    let at = refusal_words(page, at, v);
-    text(page, at, b"\n")
 }
 
 // The cells `first` up to `end` of these memories.
@@ -45,7 +39,7 @@ fn view_lines<'a>(
 ) -> usize {
     let answer = memory_view_answer(host, card, latest, first, end);
     let Verdict::Accepted = answer else {
-        return refused_line(page, at, model::values_of(answer, 0));
+        return refusal(page, at, b"view refused: # ", values_of(answer, 0));
     };
     cell_lines(page, at, first, memory_view(host, card, latest, first, end))
 }
@@ -75,4 +69,13 @@ pub fn plan_view_lines<'a>(
         first,
         end,
     )
+}
+
+// How many cells a plan has, at most as many as the memories; none where it does not open.
+pub fn cell_count(plan: &[u8]) -> usize
+    ensures { λ r. ⌜ r ≤ 4096 ⌝ }
+{
+    let o = format::open(plan);
+    let n = o.cells as usize;
+    if n < CELLS { n } else { CELLS }
 }

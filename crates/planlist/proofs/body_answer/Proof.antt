@@ -12,14 +12,14 @@ body-view-answer-requires c κs = search needs
 enum-told : tie.Need-enum-told
 enum-told c = search needs
 
-slice-aggregate-refused : tie.Need-slice-aggregate-refused
-slice-aggregate-refused c = search needs
+slice-aggregate-refusal : tie.Need-slice-aggregate-refusal
+slice-aggregate-refusal c = search needs
 
 values-of-requires : tie.Need-values-of-requires
 values-of-requires c κs = search needs
 
-refused-requires : tie.Need-refused-requires
-refused-requires c κs = search needs
+refusal-requires : tie.Need-refusal-requires
+refusal-requires c κs = search needs
 
 returns : tie.Need-returns
 returns c = search needs
@@ -42,9 +42,9 @@ body-answer-spec =
     (tie.spec
     body-view-answer-requires
     enum-told
-    slice-aggregate-refused
+    slice-aggregate-refusal
     values-of-requires
-    refused-requires
+    refusal-requires
     returns
     open-requires
     body-lines-requires

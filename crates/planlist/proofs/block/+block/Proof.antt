@@ -12,9 +12,8 @@ use Rattle.planlist.proofs.block.+block.Lts-block as block-lts
 use Rattle.planlist.proofs.block.record_in.Reads as record-in-reads
 use Rattle.reading.proofs.first_arm.Reads as first-arm-reads
 use Rattle.reading.proofs.second_arm.Reads as second-arm-reads
-use Rattle.planlist.proofs.records.else_line.Reads as else-line-reads
-use Rattle.planlist.proofs.records.empty_line.Reads as empty-line-reads
-use Rattle.planlist.proofs.records.record_line.Reads as record-line-reads
+use Rattle.lines.proofs.records.else_line.Reads as else-line-reads
+use Rattle.lines.proofs.records.record_lines.Reads as record-lines-reads
 use Rattle.planlist.proofs.block.+block.{statement}
 use Rattle.planlist.proofs.block.+block.Tie.{close}
 
@@ -35,7 +34,7 @@ block-μ-loop page₀ at body first level from end waiting₀ r₀ page waiting 
 
 -- what each callee asks and gives, this one below t
 abbrev calls : ℕ → block-lts.Claims
-calls t = (record-in-reads.Asked, record-in-reads.Learnt, first-arm-reads.Asked, first-arm-reads.Learnt, second-arm-reads.Asked, second-arm-reads.Learnt, record-line-reads.Asked, record-line-reads.Learnt, empty-line-reads.Asked, empty-line-reads.Learnt, block-below t, block.Post, else-line-reads.Asked, else-line-reads.Learnt)
+calls t = (record-in-reads.Asked, record-in-reads.Learnt, first-arm-reads.Asked, first-arm-reads.Learnt, second-arm-reads.Asked, second-arm-reads.Learnt, record-lines-reads.Asked, record-lines-reads.Learnt, block-below t, block.Post, else-line-reads.Asked, else-line-reads.Learnt)
 
 -- what is known of record r's arms once they are read
 known : (t : ℕ) (c : block-lts.After-second-arm (calls t) (block-at t) block.Post block-Inv-loop block-μ-loop) → Parts (c .before .before .before .before .before .before .args .body .now) (c .before .before .before .before .before .before .args .first) (c .before .before .before .before .loop .r) (c .before .before .before .before .before .before .args .end) (c .before .first-arm .result) (c .second-arm .result)
@@ -64,20 +63,14 @@ block-second-arm-requires t c κs = search needs
 block-add-next : (t : ℕ) → block-lts.Need-add-next (calls t) (block-at t) block.Post block-Inv-loop block-μ-loop
 block-add-next t c = search needs
 
-block-add-record-line : (t : ℕ) → block-lts.Need-add-record-line (calls t) (block-at t) block.Post block-Inv-loop block-μ-loop
-block-add-record-line t c = search needs
+block-add-record-lines : (t : ℕ) → block-lts.Need-add-record-lines (calls t) (block-at t) block.Post block-Inv-loop block-μ-loop
+block-add-record-lines t c = search needs
 
-block-cast-record-line : (t : ℕ) → block-lts.Need-cast-record-line (calls t) (block-at t) block.Post block-Inv-loop block-μ-loop
-block-cast-record-line t c = search needs
+block-cast-record-lines : (t : ℕ) → block-lts.Need-cast-record-lines (calls t) (block-at t) block.Post block-Inv-loop block-μ-loop
+block-cast-record-lines t c = search needs
 
-block-record-line-requires : (t : ℕ) → block-lts.Need-record-line-requires (calls t) (block-at t) block.Post block-Inv-loop block-μ-loop
-block-record-line-requires t c κs = search needs
-
-block-add-empty-line : (t : ℕ) → block-lts.Need-add-empty-line (calls t) (block-at t) block.Post block-Inv-loop block-μ-loop
-block-add-empty-line t c = search needs
-
-block-empty-line-requires : (t : ℕ) → block-lts.Need-empty-line-requires (calls t) (block-at t) block.Post block-Inv-loop block-μ-loop
-block-empty-line-requires t c κs = search needs
+block-record-lines-requires : (t : ℕ) → block-lts.Need-record-lines-requires (calls t) (block-at t) block.Post block-Inv-loop block-μ-loop
+block-record-lines-requires t c κs = search needs
 
 block-add-block : (t : ℕ) → block-lts.Need-add-block (calls t) (block-at t) block.Post block-Inv-loop block-μ-loop
 block-add-block t c = search needs
@@ -86,10 +79,7 @@ block-add-block-2 : (t : ℕ) → block-lts.Need-add-block-2 (calls t) (block-at
 block-add-block-2 t c = search needs
 
 block-block-requires : (t : ℕ) → block-lts.Need-block-requires (calls t) (block-at t) block.Post block-Inv-loop block-μ-loop
-block-block-requires t c κs = let n = known t (c .before .before .before .before .before) in let w = c .before .before .before .before .before .before .before .before .before .before .before .pre in (omega (arith, w .0), (omega (arith, w .1), omega arith, omega (arith, w .1), n .one))
-
-block-sub-else-line : (t : ℕ) → block-lts.Need-sub-else-line (calls t) (block-at t) block.Post block-Inv-loop block-μ-loop
-block-sub-else-line t c = search needs
+block-block-requires t c κs = let n = known t (c .before .before .before) in let w = c .before .before .before .before .before .before .before .before .before .pre in (omega (arith, w .0), (omega (arith, w .1), omega arith, omega (arith, w .1), n .one))
 
 block-else-line-requires : (t : ℕ) → block-lts.Need-else-line-requires (calls t) (block-at t) block.Post block-Inv-loop block-μ-loop
 block-else-line-requires t c κs = search needs
@@ -98,13 +88,13 @@ block-add-block-3 : (t : ℕ) → block-lts.Need-add-block-3 (calls t) (block-at
 block-add-block-3 t c = search needs
 
 block-block-requires-2 : (t : ℕ) → block-lts.Need-block-requires-2 (calls t) (block-at t) block.Post block-Inv-loop block-μ-loop
-block-block-requires-2 t c κs = let n = known t (c .before .before .before .before .before .before .before .before .before) in let w = c .before .before .before .before .before .before .before .before .before .before .before .before .before .before .before .pre in (omega (arith, w .0), (omega (arith, w .1), omega arith, omega (arith, w .1), n .two))
+block-block-requires-2 t c κs = let n = known t (c .before .before .before .before .before .before .before) in let w = c .before .before .before .before .before .before .before .before .before .before .before .before .before .pre in (omega (arith, w .0), (omega (arith, w .1), omega arith, omega (arith, w .1), n .two))
 
 block-loop-less : (t : ℕ) → block-lts.Need-loop-less (calls t) (block-at t) block.Post block-Inv-loop block-μ-loop
 block-loop-less t c = search needs
 
 block-loop-again : (t : ℕ) → block-lts.Need-loop-again (calls t) (block-at t) block.Post block-Inv-loop block-μ-loop
-block-loop-again t c = let n = known t (c .before .before .before .before .before .before .before .before .before .before) in (omega arith, n .inside, n .rest)
+block-loop-again t c = let n = known t (c .before .before .before .before .before .before .before .before) in (omega arith, n .inside, n .rest)
 
 block-returns : (t : ℕ) → block-lts.Need-returns (calls t) (block-at t) block.Post block-Inv-loop block-μ-loop
 block-returns t c = search needs
@@ -122,15 +112,12 @@ pub +block-spec : {M : Type 1} → statement M
     (block-add-second-2 t)
     (block-second-arm-requires t)
     (block-add-next t)
-    (block-add-record-line t)
-    (block-cast-record-line t)
-    (block-record-line-requires t)
-    (block-add-empty-line t)
-    (block-empty-line-requires t)
+    (block-add-record-lines t)
+    (block-cast-record-lines t)
+    (block-record-lines-requires t)
     (block-add-block t)
     (block-add-block-2 t)
     (block-block-requires t)
-    (block-sub-else-line t)
     (block-else-line-requires t)
     (block-add-block-3 t)
     (block-block-requires-2 t)

@@ -42,7 +42,16 @@ number-at-requires-2 c κs = search needs
 
 returns : tie.Need-returns
 unfolding fields-in
-returns c = cc
+returns c =
+    let e = c .before .before in
+    λ i. record {
+      kind = e .before .before .before .byte .ensures i;
+      side = e .before .before .byte2 .ensures i;
+      array = e .before .byte3 .ensures i;
+      zero = e .byte4 .ensures i;
+      p = c .before .number-at .ensures i;
+      q = c .number-at2 .ensures i;
+    }
 
 pub record-in-spec : {M : Type 1} → statement M
 record-in-spec =

@@ -1,5 +1,6 @@
 -- `arrays`: each array in turn. The measure is the number of arrays left.
 use Prim.Native.Nat.{_≤_, _-_}
+use native.Mathlib.Omega.{arith}
 use Rattle.planlist.proofs.Found.{Entry, array-at}
 use borrow.Author.Needs.{needs}
 use Rattle.planlist.proofs.listing.arrays.Statement.{statement}
@@ -12,7 +13,7 @@ abbrev μ-loop : tie.MeasureT-loop
 μ-loop page₀ at plan arrays starts waiting₀ a₀ page waiting a = arrays - a
 
 -- entry a of the arrays
-entry : (c : tie.After-array-line-arg Inv-loop μ-loop) → Entry (c .before .before .before .before .before .before .args .o .«array_starts») (c .before .before .loop .a)
+entry : (c : tie.After-part-line-arg Inv-loop μ-loop) → Entry (c .before .before .before .before .before .before .args .o .«array_starts») (c .before .before .loop .a)
 entry c =
     let w = c .before .before .before .before .before .before .pre in
     array-at _ _ (w .0) (w .1) _ (c .before .loop-test .taken)
@@ -23,26 +24,26 @@ cast-arrays c = search needs
 loop-holds : tie.Need-loop-holds Inv-loop μ-loop
 loop-holds c = search needs
 
-cast-array-line : tie.Need-cast-array-line Inv-loop μ-loop
-cast-array-line c = let n = entry c in search needs
+cast-part-line : tie.Need-cast-part-line Inv-loop μ-loop
+cast-part-line c = let n = entry c in search needs
 
-mul-array-line : tie.Need-mul-array-line Inv-loop μ-loop
-mul-array-line c = search needs
+mul-part-line : tie.Need-mul-part-line Inv-loop μ-loop
+mul-part-line c = search needs
 
-array-read-array-line : tie.Need-array-read-array-line Inv-loop μ-loop
-array-read-array-line c = let n = entry c in search needs
+array-read-part-line : tie.Need-array-read-part-line Inv-loop μ-loop
+array-read-part-line c = let n = entry c in search needs
 
-add-array-line : tie.Need-add-array-line Inv-loop μ-loop
-add-array-line c = search needs
+add-part-line : tie.Need-add-part-line Inv-loop μ-loop
+add-part-line c = search needs
 
-mul-array-line-2 : tie.Need-mul-array-line-2 Inv-loop μ-loop
-mul-array-line-2 c = search needs
+mul-part-line-2 : tie.Need-mul-part-line-2 Inv-loop μ-loop
+mul-part-line-2 c = search needs
 
-array-read-array-line-2 : tie.Need-array-read-array-line-2 Inv-loop μ-loop
-array-read-array-line-2 c = let n = entry c in search needs
+array-read-part-line-2 : tie.Need-array-read-part-line-2 Inv-loop μ-loop
+array-read-part-line-2 c = let n = entry c in search needs
 
-array-line-requires : tie.Need-array-line-requires Inv-loop μ-loop
-array-line-requires c κs = let n = entry c in n .rises
+part-line-requires : tie.Need-part-line-requires Inv-loop μ-loop
+part-line-requires c κs = (omega arith, entry c .rises)
 
 add-a : tie.Need-add-a Inv-loop μ-loop
 add-a c = search needs
@@ -64,13 +65,13 @@ arrays-spec =
     μ-loop
     cast-arrays
     loop-holds
-    cast-array-line
-    mul-array-line
-    array-read-array-line
-    add-array-line
-    mul-array-line-2
-    array-read-array-line-2
-    array-line-requires
+    cast-part-line
+    mul-part-line
+    array-read-part-line
+    add-part-line
+    mul-part-line-2
+    array-read-part-line-2
+    part-line-requires
     add-a
     loop-less
     loop-again

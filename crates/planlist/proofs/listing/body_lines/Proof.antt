@@ -24,11 +24,11 @@ mul-end c = let n = stands (c .before .before) in omega (arith, n .entry .low, n
 array-read-end : tie.Need-array-read-end
 array-read-end c = let n = stands (c .before .before) in omega (arith, n .entry .low, n .entry .rises, n .few)
 
-cast-body-line : tie.Need-cast-body-line
-cast-body-line c = let n = stands (c .before .before .before) in omega (arith, n .entry .low, n .entry .rises, n .few)
+cast-part-line : tie.Need-cast-part-line
+cast-part-line c = let n = stands (c .before .before .before) in omega (arith, n .entry .low, n .entry .rises, n .few)
 
-body-line-requires : tie.Need-body-line-requires
-body-line-requires c κs = stands (c .before .before .before) .entry .rises
+part-line-requires : tie.Need-part-line-requires
+part-line-requires c κs = (omega arith, stands (c .before .before .before) .entry .rises)
 
 body-view-requires : tie.Need-body-view-requires
 body-view-requires c κs = search needs
@@ -57,8 +57,8 @@ body-lines-spec =
     add-end
     mul-end
     array-read-end
-    cast-body-line
-    body-line-requires
+    cast-part-line
+    part-line-requires
     body-view-requires
     cast-block
     sub-block

@@ -1,0 +1,111 @@
+// The lines of a record.
+ghost use Prim.Native.Nat.{_≤_};
+use crate::last;
+use console::page::Page;
+use console::page::indent;
+use console::page::row;
+use reading::Fields;
+use reading::kinds::BRANCH;
+use reading::kinds::COPY;
+use reading::kinds::LOOP;
+use reading::kinds::MARK;
+use reading::kinds::NEED;
+use reading::kinds::R;
+use reading::kinds::READ;
+use reading::kinds::RW;
+use reading::kinds::W;
+use reading::kinds::WRITE;
+
+// The number of a record, what it is by its kind, and the body that it calls; behind a row that does not end its line stands where the record acts. Then
+// the line for an arm that is empty, and the line before a second arm.
+const LINES: [u8; 142] = *b"
+01 # read
+02 # write
+03 # copy to
+04 # need
+05 # mark
+06 # branch|
+07 # loop|
+08 # call body #|
+16 # R
+17 # W
+18 # RW
+90   nothing|
+91 else|
+";
+
+const EMPTY: u8 = 90;
+
+const ELSE: u8 = 91;
+
+// Row k, so many levels in, with the number of a record and of a body.
+fn line(page: &mut Page, at: usize, level: usize, k: u8, r: u16, body: u16) -> usize {
+    let at = indent(page, at, level);
+    row(page, at, &LINES, k, &[r as u64, body as u64])
+}
+
+// Where a record acts: on the host, or from row 10 on the card, on a whole array, on one cell or on several.
+const PLACES: [u8; 149] = *b"
+00: host array #|
+01: host array # cell #|
+02: host array # cells # to #|
+10: card array #|
+11: card array # cell #|
+12: card array # cells # to #|
+";
+
+// The row for a record with these fields, on the host; there is no row 90.
+fn place_row(x: Fields) -> u8
+    ensures { λ r. ⌜ r ≤ 90 ⌝ }
+{
+    let kind = x.kind;
+    match kind {
+        READ | WRITE | COPY => {
+            if (x.p as u32) + 1 == (x.q as u32) {
+                return 1;
+            }
+            2
+        }
+        NEED | MARK | R | W | RW => 0,
+        0 | 6..=15 | 19..=255 => 90,
+    }
+}
+
+// The same on the record's side.
+fn side_row(x: Fields) -> u8 {
+    let k = place_row(x);
+    if x.side == 0 { k } else { k + 10 }
+}
+
+fn place_words(page: &mut Page, at: usize, x: Fields) -> usize {
+    row(
+        page,
+        at,
+        &PLACES,
+        side_row(x),
+        &[x.array as u64, x.p as u64, last(x.q)],
+    )
+}
+
+// The line that stands for the first arm of a branch or the arm of a loop, where it is empty.
+fn empty_line(page: &mut Page, at: usize, level: usize, x: Fields) -> usize {
+    if (BRANCH <= x.kind) & (x.kind <= LOOP) & (x.p == 0) {
+        return line(page, at, level, EMPTY, 0, 0);
+    }
+    at
+}
+
+// The lines of record r.
+pub fn record_lines(page: &mut Page, at: usize, level: usize, r: u16, x: Fields) -> usize {
+    let at = line(page, at, level, x.kind, r, x.p);
+    let at = place_words(page, at, x);
+    empty_line(page, at, level, x)
+}
+
+// The line before a second arm that has records, those from `second` up to `next`.
+pub fn else_line(page: &mut Page, at: usize, level: usize, second: usize, next: usize) -> usize {
+    if second < next {
+        return line(page, at, level, ELSE, 0, 0);
+    }
+    at
+}
