@@ -1,5 +1,6 @@
 -- `plancheck::line_of` gives the line of a plan: the check's answer of a plain one, the judge's of any other.
-use mathlib.Core.Path.{sym, ap, _∙_}
+use mathlib.Core.Path.{_≡_, sym, ap, _∙_}
+use Rattle.format.specs.Opening.{opened}
 use borrow.Author.Needs.{needs}
 use borrow.Author.Tests.{eq-eqb, ne-eqb}
 use Rattle.plancheck.proofs.line_of.Statement.{statement}
@@ -15,12 +16,15 @@ values-of-requires : tie.Need-values-of-requires
 values-of-requires c κs = search needs
 
 returns : tie.Need-returns
-returns c = record {
-  answer = c .before .check .result;
-  answers = rw (eq-eqb _ _ (sym (ap (λ o. o .kind) (c .before .before .before .«open» .ensures)) ∙ c .before .before .if1 .taken)) (c .before .check .ensures);
-  kind = ap (λ o. o .kind) (c .before .before .before .«open» .ensures);
-  values = c .values-of .ensures;
-}
+returns c =
+    let k = ap (λ o. o .kind) (c .before .before .before .«open» .ensures) in
+    let plain : opened (c .before .before .before .before .before .args .plan .now) .kind ≡ 2 = sym k ∙ c .before .before .if1 .taken in
+    record {
+      answer = c .before .check .result;
+      answers = rw (eq-eqb _ _ plain) (c .before .check .ensures);
+      kind = k;
+      values = c .values-of .ensures;
+    }
 
 judge-requires : tie.Need-judge-requires
 judge-requires c κs = search needs
@@ -29,12 +33,15 @@ values-of-requires-2 : tie.Need-values-of-requires-2
 values-of-requires-2 c κs = search needs
 
 returns-2 : tie.Need-returns-2
-returns-2 c = record {
-  answer = c .before .judge .result;
-  answers = rw (ne-eqb _ _ (λ e. c .before .before .if1 .left (ap (λ o. o .kind) (c .before .before .before .«open» .ensures) ∙ e))) (c .before .judge .ensures);
-  kind = ap (λ o. o .kind) (c .before .before .before .«open» .ensures);
-  values = c .values-of2 .ensures;
-}
+returns-2 c =
+    let k = ap (λ o. o .kind) (c .before .before .before .«open» .ensures) in
+    let other : opened (c .before .before .before .before .before .args .plan .now) .kind ≡ 2 → ⊥ = λ e. c .before .before .if1 .left (k ∙ e) in
+    record {
+      answer = c .before .judge .result;
+      answers = rw (ne-eqb _ _ other) (c .before .judge .ensures);
+      kind = k;
+      values = c .values-of2 .ensures;
+    }
 
 pub line-of-spec : {M : Type 1} → statement M
 line-of-spec =

@@ -1,6 +1,11 @@
 -- `bodies`: each body in turn. The measure is the number of bodies left.
-use mathlib.Core.Path.{ap}
-use Prim.Native.Nat.{_≤_, _-_}
+use mathlib.Core.Path.{_≡_, ap}
+use mathlib.Core.List.{List}
+use Prim.Native.Nat.{ℕ, _≤_, _-_}
+use native.Mathlib.Omega.{arith}
+use Rattle.reading.specs.Bytes.{body-count}
+use Rattle.contents.specs.declared.Opened.{Opened}
+use Rattle.contents.specs.Found.{found}
 use borrow.Author.Needs.{needs}
 use Rattle.planlist.proofs.listing.bodies.Statement.{statement}
 use Rattle.planlist.proofs.listing.bodies.Tie as tie
@@ -17,10 +22,14 @@ cast-bodies c = search needs
 loop-holds : tie.Need-loop-holds Inv-loop μ-loop
 loop-holds c = search needs
 
+-- the count of bodies that opening found is the file's
+bodies-found : (f : List ℕ) (o : Opened) → o ≡ found f → o .bodies ≡ body-count f
+bodies-found f o e = ap (λ x. x .bodies) e
+
 body-lines-requires : tie.Need-body-lines-requires Inv-loop μ-loop
 body-lines-requires c κs =
     let w = c .before .before .before .before .before .pre in
-    (w .0, w .1, rw (ap (λ x. x .bodies) (w .1)) at (c .before .loop-test .taken))
+    (w .0, w .1, omega (arith, bodies-found _ _ (w .1), c .before .loop-test .taken))
 
 add-b : tie.Need-add-b Inv-loop μ-loop
 add-b c = search needs
