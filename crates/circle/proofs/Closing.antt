@@ -29,7 +29,8 @@ use Rattle.model.specs.Rows.{row, first}
 use Rattle.format.specs.Plans.{plan-of, declared-plan-of}
 use Rattle.judge.specs.Judged.{judged}
 use Rattle.judge.proofs.Rules.{accepted-rules}
-use Rattle.expand.specs.Expanded.{expansion-of, expansion-file, expand-answer}
+use Rattle.files.specs.Expansions.{expansion-of, expansion-file}
+use Rattle.expand.specs.Expanded.{expand-answer}
 use Rattle.circle.proofs.Opens.{expansion-opens}
 use Rattle.circle.proofs.Runs.{file-demand3}
 use Rattle.circle.proofs.Writes.{judged-and-small}

@@ -30,7 +30,7 @@ use Rattle.records.proofs.Fields.{fit-declaration}
 use Rattle.records.proofs.Records.{Tests}
 use Rattle.format.proofs.Walking.{Facts, opened-facts, good-parts}
 use Rattle.format.proofs.Trees.{block-none, block-branch, block-loop, block-act, body0-none, body0-branch, body0-loop, body0-call, walk-of, body0-good, body0-body, pass-kind, pass-good, pass-declaration, pass-body}
-use Rattle.expand.specs.Expanded.{expansion-of}
+use Rattle.files.specs.Expansions.{expansion-of}
 use Rattle.sizes.proofs.Fields.{action-again}
 use Rattle.sizes.proofs.Walks.{second, next}
 use Rattle.circle.proofs.Levels.{more-levels, branch-fits, loop-fits, then-fits, declared-fits, numbered-fits}

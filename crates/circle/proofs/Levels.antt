@@ -12,7 +12,7 @@ use Rattle.model.specs.Judging.{Mode, R, W, RW, Declaration}
 use Rattle.model.specs.Expanding.{given, declared}
 use Rattle.model.proofs.Booleans.{and-out, and-in}
 use Rattle.files.specs.Bounds.{all, action-fits, block-fits}
-use Rattle.sizes.proofs.Blocks.{numbered-size}
+use Rattle.files.proofs.Blocks.{numbered-size}
 
 module _ (arrays : Arrays) where
   pub more-levels : (b : Block) (n m : ℕ) → n ≤ m → block-fits arrays n b ≡ true → block-fits arrays m b ≡ true

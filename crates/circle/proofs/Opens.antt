@@ -11,7 +11,7 @@ use Rattle.format.specs.Plans.{plan-of, declared-plan-of}
 use Rattle.files.specs.Bounds.{numbered-plan}
 use Rattle.files.proofs.RoundTrip.{plain-kind, plain-round-trip}
 use Rattle.judge.specs.Judged.{judged}
-use Rattle.expand.specs.Expanded.{expansion-of, expansion-file}
+use Rattle.files.specs.Expansions.{expansion-of, expansion-file}
 use Rattle.expand.proofs.Laws.Answers.{accepted-file}
 use Rattle.circle.proofs.Levels.{numbered-again}
 use Rattle.circle.proofs.Fits.{expansion-fits}

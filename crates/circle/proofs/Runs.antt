@@ -13,7 +13,7 @@ use Rattle.model.proofs.Demand3.{demand3}
 use Rattle.format.specs.Plans.{plan-of, declared-plan-of}
 use Rattle.judge.specs.Judged.{judged}
 use Rattle.judge.proofs.Rules.{accepted-rules}
-use Rattle.expand.specs.Expanded.{expansion-of, expansion-file}
+use Rattle.files.specs.Expansions.{expansion-of, expansion-file}
 use Rattle.circle.proofs.Opens.{expansion-opens}
 
 module _ (f : List ℕ) (accepted : judged f ≡ Accepted) where

@@ -8,7 +8,8 @@ use Rattle.model.specs.declared.Verdict.the-variants.{Accepted}
 use Rattle.model.specs.Blocks.{size}
 use Rattle.model.proofs.Rows.{skipped, passed}
 use Rattle.judge.specs.Judged.{judge-rows, judged}
-use Rattle.expand.specs.Expanded.{expansion-of, expansion-file, expand-answer, written, expanded}
+use Rattle.files.specs.Expansions.{expansion-of, expansion-file}
+use Rattle.expand.specs.Expanded.{expand-answer, written, expanded}
 
 module _ (f out : List ℕ) (e : expand-answer f out ≡ Accepted) where
   pub judged-and-small : (judged f ≡ Accepted) × (size (expansion-of f .body) ≤ 1024)

@@ -16,7 +16,7 @@ use Rattle.model.specs.Runs.{Config, Ending, finished, Run, Ends}
 use Rattle.model.specs.Demand.{latest-write, Made, moves, Moves}
 use Rattle.reading.specs.Bytes.{arrays-of}
 use Rattle.format.specs.Plans.{declared-plan-of}
-use Rattle.expand.specs.Expanded.{expansion-of}
+use Rattle.files.specs.Expansions.{expansion-of}
 use Rattle.run.specs.declared.End.{End}
 use Rattle.run.specs.Running.{Lent, holding}
 use Rattle.machine.specs.Choices.{choices-of}

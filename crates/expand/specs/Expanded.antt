@@ -5,21 +5,11 @@ use lib.ListN.{length, drop}
 use lib.Dec.{ltb}
 use Rattle.model.specs.declared.Verdict.{Verdict}
 use Rattle.model.specs.declared.Verdict.the-variants.{Accepted, Stopped, Refused}
-use Rattle.model.specs.Blocks.{size, Plan}
-use Rattle.model.specs.Expanding.{expansion}
+use Rattle.model.specs.Blocks.{size}
 use Rattle.model.specs.Rows.{row, first}
-use Rattle.format.specs.Plans.{declared-plan-of}
-use Rattle.files.specs.Files.{plain-file}
+use Rattle.files.specs.Expansions.{expansion-of, expansion-file}
 use Rattle.judge.specs.Judged.{judge-rows}
 use Rattle.expand.specs.declared.Length.{Length}
-
--- the expansion of the plan that a file is
-abbrev pub expansion-of : List ℕ → Plan
-expansion-of f = expansion (declared-plan-of f)
-
--- "the expansion's file": a plain plan's
-abbrev pub expansion-file : List ℕ → List ℕ
-expansion-file f = plain-file (expansion-of f)
 
 -- the judge's numbers, then "16 expansion over 1,024 records; 17 output shorter than the expansion's file"
 unfoldable pub expand-answer : List ℕ → List ℕ → Verdict

@@ -8,38 +8,16 @@ ghost use Rattle.format.specs.Opening.{opened};
 ghost use Rattle.judge.specs.Judged.{judged};
 ghost use Rattle.model.specs.Blocks.{size};
 ghost use Rattle.sizes.specs.Inner.Sizes.{DeclaredFile, Places, place};
-ghost use Rattle.writer.specs.Inner.Pieces.{over};
-ghost use Rattle.expand.specs.Expanded.{expansion-of, expansion-file, expand-answer, expanded, length-of-expansion};
+ghost use Rattle.files.specs.Expansions.{expansion-of, expansion-file};
+ghost use Rattle.expand.specs.Expanded.{expand-answer, expanded, length-of-expansion};
 use contents::Opened;
 use format::open;
 use judge::judge_opened;
 use model::Verdict;
-use reading::byte;
 use reading::kinds::LARGEST;
 use reading::kinds::MOST_RECORDS;
-use reading::kinds::PLACES;
 use sizes::places;
-use writer::put_body;
-use writer::put_bytes;
-use writer::put_checks;
-use writer::put_entry;
-use writer::put_header;
-
-// The expansion's file: header and contents, then the records in the part behind them, then the check bytes.
-fn put_file(plan: &[u8], o: Opened, places: &[u32; PLACES], out: &mut [u8], end: usize)
-    requires { ⌜ DeclaredFile (now plan) × (o ≡ found (now plan)) × Places (now plan) (now places) × (end ≡ records-in (now plan) 0) × (place (now plan) end ≤ 1024) × (length (expansion-file (now plan)) ≤ length (now out)) ⌝ }
-    ensures { λ _. ⌜ now (out .exit) ≡ over (expansion-file (now (plan .entry))) (now (out .entry)) ⌝ }
-{
-    let arrays = byte(plan, 1);
-    let records = places[end];
-    let entry = 4 + 2 * (arrays as usize);
-    let bodies = entry + 4;
-    put_header(out, arrays);
-    put_bytes(&mut out[4..], &plan[4..entry]);
-    put_entry(&mut out[entry..], records as u16);
-    put_body(plan, o, places, &mut out[bodies..], end);
-    put_checks(out, bodies + 8 * (records as usize));
-}
+use writer::put_file;
 
 // The judge's answer, 16, 17, or accepted with the expansion's file written over the front of the output; opening has found the plan file to be o.
 pub fn expand_judged(plan: &[u8], o: Opened, out: &mut [u8], answer: Verdict) -> Verdict

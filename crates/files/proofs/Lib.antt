@@ -3,3 +3,5 @@ pub mod Files
 pub mod RoundTrip
 pub mod Octets
 pub mod Examples
+pub mod Blocks
+pub mod Given

@@ -1,3 +1,5 @@
 -- From a plan back to the bytes of its file, and the plans that a file can hold.
 pub mod Files
 pub mod Bounds
+pub mod Expansions
+pub mod Inner

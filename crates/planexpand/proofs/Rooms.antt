@@ -14,20 +14,21 @@ use Rattle.model.specs.declared.Verdict.the-variants.{Accepted, Stopped, Refuse
 use Rattle.model.specs.Blocks.{size}
 use Rattle.model.specs.Rows.{Row, row, first}
 use Rattle.format.specs.Plans.{declared-plan-of}
+use Rattle.format.proofs.Walking.{opened-facts}
 use Rattle.model.proofs.Rows.{skipped, passed, unheld}
 use Rattle.reading.proofs.Tables.{arrays-counted}
 use Rattle.files.proofs.RoundTrip.{plain-length}
 use Rattle.judge.specs.Judged.{judge-rows, judged}
-use Rattle.expand.specs.Expanded.{expansion-of, expansion-file, expand-answer, expanded, written, length-answer, length-by, length-of-expansion}
+use Rattle.files.specs.Expansions.{expansion-of, expansion-file}
+use Rattle.expand.specs.Expanded.{expand-answer, expanded, written, length-answer, length-by, length-of-expansion}
 use Rattle.expand.proofs.Laws.Answers.{accepted-file}
-use Rattle.expand.proofs.Laws.Files.{arrays-low}
 use Rattle.planexpand.specs.Expansions.{shown}
 
 module _ (f : List ℕ) where
   -- an expansion has at most 1,024 records and at most 32 arrays
   short : Accepted ≡ judged f → size (expansion-of f .body) ≤ 1024 → length (expansion-file f) ≤ 8266
   unfolding declared-plan-of
-  short e few = omega (arith, plain-length (expansion-of f), arrays-counted f, arrays-low f (accepted-file f e))
+  short e few = omega (arith, plain-length (expansion-of f), arrays-counted f, opened-facts f (accepted-file f e .opened) .bounds .header .arrays)
 
   abbrev rows : List Row
   rows = judge-rows f ++ (row (ltb 1024 (size (expansion-of f .body))) 16 0 ∷ [])

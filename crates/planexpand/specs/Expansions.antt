@@ -8,7 +8,8 @@ use Rattle.model.specs.declared.Verdict.{Verdict}
 use Rattle.model.specs.declared.Verdict.the-variants.{Accepted, Stopped, Refused}
 use Rattle.model.specs.Verdicts.{values-of}
 use Rattle.format.specs.Opening.{opened}
-use Rattle.expand.specs.Expanded.{expansion-file, expand-answer, expanded, length-answer}
+use Rattle.files.specs.Expansions.{expansion-file}
+use Rattle.expand.specs.Expanded.{expand-answer, expanded, length-answer}
 use Rattle.planexpand.specs.declared.Expansion.{Expansion}
 
 -- what goes to standard output: the expansion's file, at a refusal nothing

@@ -14,13 +14,8 @@ use Rattle.records.specs.Records.{fields-fit}
 use Rattle.format.specs.Plans.{side-of, action-of}
 use Rattle.files.specs.Files.{side-number, fields, action-fields}
 use Rattle.reading.proofs.Ranges.{in-range}
+use Rattle.files.proofs.Given.{side-again}
 use Rattle.records.proofs.Fields.{Sizes, fit-cells, fit-array, fit-declaration, fit-branch, fit-loop, fit-call}
-
-pub side-again : (s : ℕ) → s < 2 → side-number (side-of s) ≡ s
-side-again s h = elim (ℕᴺ-discrete s 0) [
-  | yes z ↦ rw z
-  | no z ↦ let e : s ≡ 1 = omega arith in rw e
-]
 
 -- "Unused fields are zero"
 pub fields-are : (x : Fields) (kind side array p q : ℕ) → x .kind ≡ kind → x .side ≡ side → x .array ≡ array → x .zero ≡ 0 → x .p ≡ p → x .q ≡ q → x ≡ fields kind side array p q

@@ -1,5 +1,4 @@
 -- Laws that the functions' proofs cite
-pub mod Blocks
 pub mod Tables
 pub mod Fields
 pub mod Walks

@@ -1,88 +1,32 @@
 -- What stands for a call of a pass: what its declarations give, and its other records.
 use mathlib.Core.Path.{_≡_, refl, sym, ap, _∙_}
-use mathlib.Core.Bool.{Bool, true, false, cond, _||_}
-use mathlib.Core.List.{List, [], _++_, append-assoc}
-use Prim.Native.Nat.{ℕ, zero, suc, _+_, _*_, _-_, _≤_, _<_}
+use mathlib.Core.List.{List, _++_, append-assoc}
+use Prim.Native.Nat.{ℕ, suc, _+_, _-_, _≤_, _<_}
 use native.Nat.{ℕᴺ-discrete}
 use native.Mathlib.Numerals.{add-one}
 use native.Mathlib.Omega.{arith}
-use lib.Dec.{eqb}
 use lib.ListN.{length, length-append}
 use borrow.Author.Tests.{ne-eqb}
-use Rattle.model.specs.Blocks.{Block, size}
-use Rattle.model.specs.Judging.{R, W, RW}
-use Rattle.model.specs.Expanding.{given}
-use Rattle.reading.specs.declared.Fields.{Fields}
+use Rattle.model.specs.Blocks.{size}
 use Rattle.reading.specs.Bytes.{kind-of, body-count, table, records-in, declarations-in, sizes-of, first-record, fields-at, first-arm, second-arm}
 use Rattle.contents.specs.declared.Opened.{Opened}
 use Rattle.contents.specs.Found.{found}
-use Rattle.contents.proofs.Found.{BodyAt, body-at}
-use Rattle.format.specs.Plans.{side-of, declaration-of, pass-at}
+use Rattle.passes.specs.declared.Extent.{Extent}
+use Rattle.passes.specs.Inner.Passes.{extent-of, PassAt}
+use Rattle.passes.proofs.Records.{stands}
+use Rattle.format.specs.Plans.{pass-at}
 use Rattle.files.specs.Files.{block-fields}
 use Rattle.format.specs.Inner.Walks.{block-between}
 use Rattle.reading.proofs.Tables.{length-table, next-record, first-rises}
 use Rattle.format.proofs.Walking.{Facts, opened-facts, good-parts}
 use Rattle.format.proofs.Trees.{block-none, block-branch, block-loop, block-act, walk-of, no-arms, pass-kind, pass-good, pass-body}
 use Rattle.files.proofs.Files.Records.{fields-count}
-use Rattle.sizes.specs.Inner.Sizes.{DeclaredFile, given-by, declared-from, called}
-use Rattle.sizes.proofs.Blocks.{same-size, declared-fields, declared-next}
+use Rattle.files.specs.Inner.Given.{declared-from}
+use Rattle.files.proofs.Blocks.{same-size, declared-fields}
+use Rattle.files.proofs.Given.{declared-low}
+use Rattle.sizes.specs.Inner.Sizes.{DeclaredFile, called}
 use Rattle.sizes.proofs.Fields.{action-again, nested-again}
 use Rattle.sizes.proofs.Walks.{second, next, branch-fields, loop-fields, Made, made-between}
-
--- one declaration
-module _ (x : Fields) where
-  pub given-size : size (given-by x) ≡ cond (eqb (x .kind) 16 || eqb (x .kind) 17) 1 2
-  unfolding given-by declaration-of
-  given-size = go (eqb (x .kind) 16) (eqb (x .kind) 17)
-    where
-      go : (r w : Bool) → size (given (cond r R (cond w W RW)) (side-of (x .side)) (x .array) Block.done) ≡ cond (r || w) 1 2
-      go true w = refl
-      go false true = refl
-      go false false = refl
-
-  pub given-low : size (given-by x) ≤ 2
-  given-low = rw given-size (go (eqb (x .kind) 16 || eqb (x .kind) 17))
-    where
-      go : (t : Bool) → cond t 1 2 ≤ 2
-      go true = omega arith
-      go false = omega arith
-
-  pub given-some : 1 ≤ size (given-by x)
-  given-some = rw given-size (go (eqb (x .kind) 16 || eqb (x .kind) 17))
-    where
-      go : (t : Bool) → 1 ≤ cond t 1 2
-      go true = omega arith
-      go false = omega arith
-
--- declarations
-module _ (f : List ℕ) (r : ℕ) where
-  pub declared-none : block-fields (declared-from f r 0) ≡ []
-  unfolding declared-from table
-  declared-none = refl
-
-  pub declared-more : (i : ℕ) → block-fields (declared-from f r (i + 1)) ≡ block-fields (declared-from f r i) ++ block-fields (given-by (fields-at f (r + i)))
-  unfolding declared-from given-by table
-  declared-more i = rw add-one (declared-next (table (λ k. declaration-of (fields-at f (r + k))) i) (declaration-of (fields-at f (r + i))))
-
-  pub declared-size : (i : ℕ) → size (declared-from f r (i + 1)) ≡ size (declared-from f r i) + size (given-by (fields-at f (r + i)))
-  declared-size i = same-size (declared-from f r (i + 1)) _ (declared-more i) ∙ omega (arith, length-append (block-fields (declared-from f r i)) (block-fields (given-by (fields-at f (r + i)))), fields-count (declared-from f r i), fields-count (given-by (fields-at f (r + i))))
-
-  declared-suc : (i : ℕ) → size (declared-from f r (suc i)) ≡ size (declared-from f r i) + size (given-by (fields-at f (r + i)))
-  declared-suc i = rw add-one at (declared-size i)
-
-  pub declared-step : (n i m : ℕ) (x : Fields) → n ≡ size (declared-from f r i) → x ≡ fields-at f (r + i) → m ≡ size (given-by x) → n + m ≡ size (declared-from f r (i + 1))
-  declared-step n i m x a b c = rw (a, c, b) (sym (declared-size i))
-
-  pub declared-within : (i n : ℕ) → i ≤ n → size (declared-from f r i) ≤ size (declared-from f r n)
-  declared-within i zero h = let e : i ≡ 0 = omega arith in rw e (omega arith)
-  declared-within i (suc n) h = elim (ℕᴺ-discrete i (suc n)) [
-    | yes e ↦ rw e (omega arith)
-    | no z ↦ omega (arith, declared-within i n (omega arith), declared-suc n)
-  ]
-
-  pub declared-low : (n : ℕ) → size (declared-from f r n) ≤ 2 * n
-  declared-low zero = omega (arith, same-size (declared-from f r 0) _ declared-none)
-  declared-low (suc n) = omega (arith, declared-low n, declared-suc n, given-low (fields-at f (r + n)))
 
 -- a pass of a file that opens
 module _ (f : List ℕ) (file : DeclaredFile f) (b : ℕ) (p : 1 ≤ b) (l : b < body-count f) where
@@ -97,10 +41,6 @@ module _ (f : List ℕ) (file : DeclaredFile f) (b : ℕ) (p : 1 ≤ b) (l : b <
 
   abbrev end : ℕ
   end = first-record f b + records-in f b
-
-  -- where it stands, by what opening found
-  pub stands : (o : Opened) → o ≡ found f → BodyAt f o b
-  stands o e = body-at f o e (w .bounds) b l
 
   pass-made : Made f b until (table (fields-at f)) (block-between f)
   unfolding table second-arm
@@ -147,12 +87,14 @@ module _ (f : List ℕ) (file : DeclaredFile f) (b : ℕ) (p : 1 ≤ b) (l : b <
         simp (length-append, length-table) at (ap length others),
       )
 
-  -- the same of what was read and counted
-  pub called-counted : (from last count m : ℕ) → from ≡ first-record f b → last ≡ end → count ≡ declarations-in f b → m ≡ size (declared-from f from count) → m + (last - from - count) ≡ size (called f b)
-  called-counted from last count m e₁ e₂ e₃ e =
-      let s : m ≡ size (declared-from f (first-record f b) (declarations-in f b)) = rw (e₁, e₃) at e in
-      omega (arith, called-size)
-
   pub called-low : size (called f b) ≤ 2048
   called-low =
       omega (arith, called-size, declared-low f (first-record f b) (declarations-in f b), w .bounds .declared b l, w .bounds .records, next-record f b l, first-rises (sizes-of f) (suc b) (body-count f) l)
+
+-- a pass where it stands, by what opening found
+module _ (f : List ℕ) (e : Extent) (p : PassAt f e) where
+  pub called-at : size (called f (e .body)) ≡ size (declared-from f (e .from) (e .declarations)) + (e .records - e .declarations)
+  called-at = rw (p .from-is, p .declarations-are, p .records-are) (called-size f (record { opened = p .opens; kind = p .declared }) (e .body) (p .low) (p .high) ∙ omega arith)
+
+pub pass-stands : (f : List ℕ) → DeclaredFile f → (o : Opened) → o ≡ found f → (b : ℕ) → 1 ≤ b → b < body-count f → (e : Extent) → e ≡ extent-of o b → PassAt f e
+pass-stands f file o w b l h e is = stands f (file .opened) o w b h (file .kind) l e is

@@ -5,8 +5,10 @@ ghost use Rattle.model.specs.Blocks.{size};
 ghost use Rattle.reading.specs.Bytes.{body-count, records-in, bodies-at};
 ghost use Rattle.reading.specs.Inner.Places.{Inside};
 ghost use Rattle.contents.specs.Found.{found};
-ghost use Rattle.sizes.specs.Inner.Sizes.{DeclaredFile, given-by, declared-from, called, record-size, PassSizes, Places};
+ghost use Rattle.files.specs.Inner.Given.{given-by, declared-from};
+ghost use Rattle.sizes.specs.Inner.Sizes.{DeclaredFile, called, record-size, PassSizes, Places};
 use contents::Opened;
+use passes::extent_of;
 use reading::Fields;
 use reading::kinds::CALL;
 use reading::kinds::NAMES;
@@ -41,13 +43,8 @@ pub fn pass_size(plan: &[u8], o: Opened, b: usize) -> u32
     requires { ⌜ DeclaredFile (now plan) × (o ≡ found (now plan)) × (1 ≤ b) × (b < body-count (now plan)) ⌝ }
     ensures { λ r. ⌜ r ≡ size (called (now (plan .entry)) b) ⌝ }
 {
-    let bodies = o.offset as usize;
-    let starts = o.body_starts;
-    let declarations = o.declarations;
-    let from = starts[b] as usize;
-    let end = starts[b + 1] as usize;
-    let count = declarations[b] as usize;
-    declared_size(plan, bodies, from, count) + ((end - from - count) as u32)
+    let e = extent_of(o, b);
+    declared_size(plan, e.bodies, e.from, e.declarations) + ((e.records - e.declarations) as u32)
 }
 
 // The same for each pass.

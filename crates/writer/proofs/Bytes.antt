@@ -9,8 +9,8 @@ use lib.Seq.{take-suc, getD-drop, take-add, drop-drop, drop-at, length-take-le}
 use Rattle.reading.specs.declared.Fields.{Fields}
 use Rattle.reading.specs.Bytes.{byte-at, u16-at, table, array-count, length-at, arrays-of, bodies-at, fields-at}
 use Rattle.files.specs.Files.{u16-bytes, record-bytes, joined}
-use Rattle.writer.specs.Inner.Pieces.{bytes-of}
-use Rattle.writer.proofs.Records.{joined-append, bytes-append}
+use Rattle.given.specs.Inner.Over.{bytes-of}
+use Rattle.given.proofs.Records.{joined-append, bytes-append}
 
 -- the n bytes from place i on
 bytes-from : (f : List ℕ) (i n : ℕ) → i + n ≤ length f → table (λ k. byte-at f (i + k)) n ≡ take n (drop i f)

@@ -1,107 +1,31 @@
 // Writing the expansion's file: each function writes at the front of the part of the output that it is lent.
 ghost use mathlib.Core.Path.{_≡_};
 ghost use mathlib.Core.List.{[], _∷_, _++_};
-ghost use Prim.Native.Nat.{_+_, _*_, _≤_, _<_};
-ghost use lib.ListN.{length, take};
+ghost use Prim.Native.Nat.{_+_, _*_, _-_, _≤_, _<_};
+ghost use lib.ListN.{length, take, getD};
 ghost use Rattle.model.specs.Blocks.{size};
-ghost use Rattle.reading.specs.Bytes.{body-count, records-in};
-ghost use Rattle.reading.specs.Inner.Places.{Inside};
+ghost use Rattle.reading.specs.Bytes.{array-count, records-in};
 ghost use Rattle.contents.specs.Found.{found};
 ghost use Rattle.sums.specs.Sums.{check-bytes};
-ghost use Rattle.files.specs.Files.{record-bytes, u16-bytes, fields, block-fields};
-ghost use Rattle.sizes.specs.Inner.Sizes.{DeclaredFile, given-by, declared-from, called, record-size, place, Places};
-ghost use Rattle.writer.specs.Inner.Pieces.{DeclarationsAt, over, bytes-of, piece, pieces};
+ghost use Rattle.files.specs.Files.{u16-bytes, record-bytes, block-fields};
+ghost use Rattle.files.specs.Expansions.{expansion-file};
+ghost use Rattle.passes.specs.Inner.Passes.{PassAt};
+ghost use Rattle.sizes.specs.Inner.Sizes.{DeclaredFile, called, record-size, place, Places};
+ghost use Rattle.given.specs.Inner.Over.{over, bytes-of};
+ghost use Rattle.writer.specs.Inner.Pieces.{Arms, nested, piece, pieces, contents-bytes};
 use contents::Opened;
+use given::put_declarations;
+use given::put_record;
+use passes::Extent;
+use passes::extent_of;
 use reading::Fields;
 use reading::first_arm;
 use reading::kinds::CALL;
-use reading::kinds::MARK;
-use reading::kinds::NEED;
 use reading::kinds::PLACES;
 use reading::kinds::PLAIN;
-use reading::kinds::R;
-use reading::kinds::W;
 use reading::record_at;
 use reading::second_arm;
 use sums::check_sums;
-
-// A record.
-pub fn put_record(out: &mut [u8], x: Fields)
-    requires { ⌜ 8 ≤ length (now out) ⌝ }
-    ensures { λ _. ⌜ now (out .exit) ≡ over (record-bytes x) (now (out .entry)) ⌝ }
-{
-    let p = x.p;
-    let q = x.q;
-    out[0] = x.kind;
-    out[1] = x.side;
-    out[2] = x.array;
-    out[3] = x.zero;
-    out[4] = (p % 256) as u8;
-    out[5] = (p / 256) as u8;
-    out[6] = (q % 256) as u8;
-    out[7] = (q / 256) as u8;
-}
-
-// A need or a mark, of kind 4 or 5.
-pub fn put_given(out: &mut [u8], kind: u8, side: u8, array: u8)
-    requires { ⌜ 8 ≤ length (now out) ⌝ }
-    ensures { λ _. ⌜ now (out .exit) ≡ over (record-bytes (fields kind side array 0 0)) (now (out .entry)) ⌝ }
-{
-    put_record(
-        out,
-        Fields {
-            kind: kind,
-            side: side,
-            array: array,
-            zero: 0,
-            p: 0,
-            q: 0,
-        },
-    );
-}
-
-// What a declaration gives; the answer is how many records that is.
-pub fn put_declaration(out: &mut [u8], x: Fields) -> usize
-    requires { ⌜ (x .side < 2) × (8 * size (given-by x) ≤ length (now out)) ⌝ }
-    ensures size { λ r. ⌜ r ≡ size (given-by x) ⌝ }
-    ensures bytes { λ _. ⌜ now (out .exit) ≡ over (bytes-of (block-fields (given-by x))) (now (out .entry)) ⌝ }
-{
-    let side = x.side;
-    let array = x.array;
-    if x.kind == W {
-        put_given(out, MARK, side, array);
-        return 1;
-    }
-    put_given(out, NEED, side, array);
-    if x.kind == R {
-        return 1;
-    }
-    put_given(&mut out[8..], MARK, side, array);
-    2
-}
-
-// What the declarations from record `from` on give, so many of them; the answer is how many records that is.
-pub fn put_declarations(
-    plan: &[u8],
-    bodies: usize,
-    out: &mut [u8],
-    from: usize,
-    count: usize,
-) -> usize
-    requires { ⌜ DeclarationsAt (now plan) from count × Inside (now plan) bodies (from + count) × (8 * size (declared-from (now plan) from count) ≤ length (now out)) ⌝ }
-    ensures size { λ r. ⌜ r ≡ size (declared-from (now (plan .entry)) from count) ⌝ }
-    ensures bytes { λ _. ⌜ now (out .exit) ≡ over (bytes-of (block-fields (declared-from (now (plan .entry)) from count))) (now (out .entry)) ⌝ }
-{
-    let mut n: usize = 0;
-    let mut i: usize = 0;
-    while i < count {
-        let x = record_at(plan, bodies, from + i);
-        let at = 8 * n;
-        n += put_declaration(&mut out[at..], x);
-        i += 1;
-    }
-    n
-}
 
 // Bytes as they are.
 pub fn put_bytes(out: &mut [u8], bytes: &[u8])
@@ -115,22 +39,46 @@ pub fn put_bytes(out: &mut [u8], bytes: &[u8])
     }
 }
 
-// What stands for a call of body b: what its declarations give, and its other records byte for byte.
-pub fn put_call(plan: &[u8], o: Opened, out: &mut [u8], b: usize)
-    requires { ⌜ DeclaredFile (now plan) × (o ≡ found (now plan)) × (1 ≤ b) × (b < body-count (now plan)) × (8 * size (called (now plan) b) ≤ length (now out)) ⌝ }
-    ensures { λ _. ⌜ now (out .exit) ≡ over (bytes-of (block-fields (called (now (plan .entry)) b))) (now (out .entry)) ⌝ }
+// What stands for a call of the pass at e: what its declarations give, and its other records byte for byte.
+pub fn put_call(plan: &[u8], e: Extent, out: &mut [u8])
+    requires { ⌜ PassAt (now plan) e × (8 * size (called (now plan) (e .body)) ≤ length (now out)) ⌝ }
+    ensures { λ _. ⌜ now (out .exit) ≡ over (bytes-of (block-fields (called (now (plan .entry)) (e .body)))) (now (out .entry)) ⌝ }
 {
-    let bodies = o.offset as usize;
-    let starts = o.body_starts;
-    let declarations = o.declarations;
-    let from = starts[b] as usize;
-    let end = starts[b + 1] as usize;
-    let count = declarations[b] as usize;
-    let made = put_declarations(plan, bodies, out, from, count);
+    let made = put_declarations(plan, e.bodies, out, e.from, e.declarations);
     let at = 8 * made;
-    let first = bodies + 8 * (from + count);
-    let last = bodies + 8 * end;
+    let first = e.bodies + 8 * (e.from + e.declarations);
+    let last = e.bodies + 8 * (e.from + e.records);
     put_bytes(&mut out[at..], &plan[first..last]);
+}
+
+// How many records the expansion has for an arm of `count` records, from record `from` on.
+pub fn grown(places: &[u32; PLACES], from: usize, count: usize) -> u16
+    requires { ⌜ (from + count ≤ 1024) × (getD (now places) from 0 ≤ getD (now places) (from + count) 0) × (getD (now places) (from + count) 0 ≤ 1024) ⌝ }
+    ensures { λ n. ⌜ n ≡ getD (now (places .entry)) (from + count) 0 - getD (now (places .entry)) from 0 ⌝ }
+{
+    let next = from + count;
+    (places[next] - places[from]) as u16
+}
+
+// A branch or a loop, record r of body 0 with the fields x, with its arm counts grown to fit.
+pub fn put_nested(places: &[u32; PLACES], out: &mut [u8], r: usize, x: Fields)
+    requires { ⌜ Arms (now places) r x × (8 ≤ length (now out)) ⌝ }
+    ensures { λ _. ⌜ now (out .exit) ≡ over (record-bytes (nested (now (places .entry)) r x)) (now (out .entry)) ⌝ }
+{
+    let first = first_arm(x);
+    let p = grown(places, r + 1, first);
+    let q = grown(places, r + 1 + first, second_arm(x));
+    put_record(
+        out,
+        Fields {
+            kind: x.kind,
+            side: 0,
+            array: 0,
+            zero: 0,
+            p: p,
+            q: q,
+        },
+    );
 }
 
 // What stands for record r of body 0: a call's records, or a branch or a loop with its arm counts grown to fit.
@@ -140,24 +88,10 @@ pub fn put_piece(plan: &[u8], o: Opened, places: &[u32; PLACES], out: &mut [u8],
 {
     let x = record_at(plan, o.offset as usize, r);
     if x.kind == CALL {
-        put_call(plan, o, out, x.p as usize);
+        put_call(plan, extent_of(o, x.p as usize), out);
         return;
     }
-    let second = r + 1 + first_arm(x);
-    let next = second + second_arm(x);
-    let p = places[second] - places[r + 1];
-    let q = places[next] - places[second];
-    put_record(
-        out,
-        Fields {
-            kind: x.kind,
-            side: 0,
-            array: 0,
-            zero: 0,
-            p: p as u16,
-            q: q as u16,
-        },
-    );
+    put_nested(places, out, r, x);
 }
 
 // All records of the expansion.
@@ -203,4 +137,28 @@ pub fn put_checks(out: &mut [u8], n: usize)
     let s = check_sums(&out[..n]);
     out[n] = s.plain;
     out[n + 1] = s.weighted;
+}
+
+// Header and contents: the arrays of the plan, and one body of so many records.
+pub fn put_contents(plan: &[u8], out: &mut [u8], arrays: u8, records: u16)
+    requires { ⌜ (arrays ≡ array-count (now plan)) × (4 + 2 * arrays ≤ length (now plan)) × (4 + 2 * arrays + 4 ≤ length (now out)) ⌝ }
+    ensures { λ _. ⌜ now (out .exit) ≡ over (contents-bytes (now (plan .entry)) records) (now (out .entry)) ⌝ }
+{
+    let entry = 4 + 2 * (arrays as usize);
+    put_header(out, arrays);
+    put_bytes(&mut out[4..], &plan[4..entry]);
+    put_entry(&mut out[entry..], records);
+}
+
+// The expansion's file: header and contents, then the records in the part behind them, then the check bytes.
+pub fn put_file(plan: &[u8], o: Opened, places: &[u32; PLACES], out: &mut [u8], end: usize)
+    requires { ⌜ DeclaredFile (now plan) × (o ≡ found (now plan)) × Places (now plan) (now places) × (end ≡ records-in (now plan) 0) × (place (now plan) end ≤ 1024) × (length (expansion-file (now plan)) ≤ length (now out)) ⌝ }
+    ensures { λ _. ⌜ now (out .exit) ≡ over (expansion-file (now (plan .entry))) (now (out .entry)) ⌝ }
+{
+    let arrays = o.arrays;
+    let records = places[end];
+    let bodies = 8 + 2 * (arrays as usize);
+    put_contents(plan, out, arrays, records as u16);
+    put_body(plan, o, places, &mut out[bodies..], end);
+    put_checks(out, bodies + 8 * (records as usize));
 }

@@ -14,9 +14,10 @@ use Rattle.format.specs.Opening.{open-rows, opening, opened}
 use Rattle.format.proofs.Walking.{verdict-is, found-is}
 use Rattle.model.proofs.Rows.{holds, skips, skipped, empty, stop, pass, passed}
 use Rattle.judge.specs.Judged.{judge-rows, judged}
-use Rattle.expand.specs.Expanded.{expansion-of, expansion-file, expand-answer, written, expanded}
+use Rattle.files.specs.Expansions.{expansion-of, expansion-file}
+use Rattle.expand.specs.Expanded.{expand-answer, written, expanded}
 use Rattle.sizes.specs.Inner.Sizes.{DeclaredFile}
-use Rattle.writer.specs.Inner.Pieces.{over}
+use Rattle.given.specs.Inner.Over.{over}
 
 module _ (f : List ℕ) where
   -- a plan that the judge accepts opens as a declared plan

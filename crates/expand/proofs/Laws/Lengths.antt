@@ -11,7 +11,8 @@ use Rattle.model.specs.Blocks.{size}
 use Rattle.model.proofs.Rows.{refused, holds, skips, empty, stop, pass}
 use Rattle.judge.specs.Judged.{judge-rows, judged}
 use Rattle.expand.specs.declared.Length.{Length}
-use Rattle.expand.specs.Expanded.{expansion-of, expansion-file, length-answer, length-by, length-of-expansion}
+use Rattle.files.specs.Expansions.{expansion-of, expansion-file}
+use Rattle.expand.specs.Expanded.{length-answer, length-by, length-of-expansion}
 
 module _ (f : List ℕ) (r : Length) where
   no-length : (v : Verdict) → (v ≡ Accepted → ⊥) → r ≡ record { verdict = v; bytes = 0 } → v ≡ length-answer f → r ≡ length-of-expansion f

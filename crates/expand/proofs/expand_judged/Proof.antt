@@ -9,11 +9,11 @@ use Rattle.reading.specs.Bytes.{records-in}
 use Rattle.model.proofs.Rows.{turned}
 use Rattle.contents.specs.Found.{found}
 use Rattle.judge.specs.Judged.{judged}
-use Rattle.expand.specs.Expanded.{expansion-of, expansion-file}
+use Rattle.files.specs.Expansions.{expansion-of, expansion-file}
 use Rattle.sizes.specs.Inner.Sizes.{DeclaredFile, place}
 use Rattle.sizes.proofs.Body0.{end-read, body0-few}
-use Rattle.expand.proofs.Laws.Pieces.{expansion-size, size-read-off}
-use Rattle.expand.proofs.Laws.Files.{expansion-length}
+use Rattle.writer.proofs.Expansions.{expansion-size, size-read-off}
+use Rattle.writer.proofs.Files.{expansion-length}
 use Rattle.expand.proofs.Laws.Answers.{accepted-file, accepted-found, judge-refuses, too-large, too-short, expands}
 use borrow.Author.Needs.{needs}
 use Rattle.expand.proofs.expand_judged.Statement.{statement}

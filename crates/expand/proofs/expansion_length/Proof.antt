@@ -5,8 +5,8 @@ use Rattle.model.specs.declared.Verdict.the-variants.{Accepted}
 use Rattle.contents.specs.Found.{found}
 use Rattle.model.proofs.Rows.{turned}
 use Rattle.judge.specs.Judged.{judged}
-use Rattle.expand.proofs.Laws.Pieces.{expansion-size}
-use Rattle.expand.proofs.Laws.Files.{expansion-length}
+use Rattle.writer.proofs.Expansions.{expansion-size}
+use Rattle.writer.proofs.Files.{expansion-length}
 use Rattle.expand.proofs.Laws.Answers.{accepted-file, accepted-found}
 use Rattle.expand.proofs.Laws.Lengths.{no-judgement, no-file, file-length}
 use borrow.Author.Needs.{needs}

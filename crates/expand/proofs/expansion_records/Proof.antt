@@ -4,7 +4,7 @@ use native.Mathlib.Omega.{arith}
 use lib.ListN.{getD}
 use Rattle.reading.specs.Bytes.{records-in}
 use Rattle.sizes.proofs.Body0.{body0-few, end-read}
-use Rattle.expand.proofs.Laws.Pieces.{size-read-off}
+use Rattle.writer.proofs.Expansions.{size-read-off}
 use borrow.Author.Needs.{needs}
 use Rattle.expand.proofs.expansion_records.Statement.{statement}
 use Rattle.expand.proofs.expansion_records.Tie as tie

@@ -3,9 +3,9 @@ use mathlib.Core.Path.{_≡_, sym}
 use Prim.Native.Nat.{_-_, _≤_}
 use native.Mathlib.Omega.{arith}
 use Rattle.model.specs.Blocks.{size}
-use Rattle.sizes.specs.Inner.Sizes.{declared-from}
-use Rattle.sizes.proofs.Blocks.{same-size}
-use Rattle.sizes.proofs.Passes.{given-low, declared-none, declared-step, declared-low}
+use Rattle.files.specs.Inner.Given.{declared-from}
+use Rattle.files.proofs.Blocks.{same-size}
+use Rattle.files.proofs.Given.{given-low, declared-none, declared-step, declared-low}
 use borrow.Author.Needs.{needs}
 use Rattle.sizes.proofs.declared_size.Statement.{statement}
 use Rattle.sizes.proofs.declared_size.Tie as tie

@@ -1,6 +1,6 @@
 -- `sizes::given_size` counts the records that a declaration gives.
 use mathlib.Core.Path.{sym, _∙_}
-use Rattle.sizes.proofs.Passes.{given-size}
+use Rattle.files.proofs.Given.{given-size}
 use Rattle.sizes.proofs.given_size.Statement.{statement}
 use Rattle.sizes.proofs.given_size.Tie as tie
 

@@ -1,87 +1,47 @@
 -- `sizes::pass_size` counts the records that a call of a pass becomes.
+use mathlib.Core.Path.{_≡_, sym, ap, _∙_}
+use Prim.Native.Nat.{ℕ, _+_, _-_}
 use native.Mathlib.Omega.{arith}
-use lib.ListN.{getD}
-use Rattle.contents.proofs.Found.{BodyAt}
-use Rattle.sizes.proofs.Passes.{declared-low, stands, called-counted}
-use borrow.Author.Needs.{needs}
+use Rattle.model.specs.Blocks.{size}
+use Rattle.passes.specs.Inner.Passes.{PassAt}
+use Rattle.passes.proofs.Records.{readable, declared-low, records-low, records-inside}
+use Rattle.files.proofs.Given as given
+use Rattle.sizes.specs.Inner.Sizes.{called}
+use Rattle.sizes.proofs.Passes.{pass-stands, called-at}
 use Rattle.sizes.proofs.pass_size.Statement.{statement}
 use Rattle.sizes.proofs.pass_size.Tie as tie
 
--- where the pass's records stand
-at : (c : tie.Start) → BodyAt (c .args .plan .now) (c .args .o) (c .args .b)
-at c = stands _ (c .pre .0) _ (c .pre .2) (c .pre .3) _ (c .pre .1)
+-- where the pass stands
+at : (c : tie.After-extent-of) → PassAt (c .before .before .args .plan .now) (c .extent-of .result)
+at c = let u = c .before .before in pass-stands _ (u .pre .0) _ (u .pre .1) _ (u .pre .2) (u .pre .3) _ (c .extent-of .ensures)
 
-cast-bodies : tie.Need-cast-bodies
-cast-bodies c = search needs
-
-mul-from : tie.Need-mul-from
-mul-from c = let s = at (c .before .before .before .before) in search needs
-
-array-read-from : tie.Need-array-read-from
-array-read-from c = let s = at (c .before .before .before .before) in search needs
-
-cast-from : tie.Need-cast-from
-cast-from c = let s = at (c .before .before .before .before) in search needs
-
-add-end : tie.Need-add-end
-add-end c = let s = at (c .before .before .before .before) in search needs
-
-mul-end : tie.Need-mul-end
-mul-end c = let s = at (c .before .before .before .before) in search needs
-
-array-read-end : tie.Need-array-read-end
-array-read-end c = let s = at (c .before .before .before .before) in search needs
-
-cast-end : tie.Need-cast-end
-cast-end c = let s = at (c .before .before .before .before) in search needs
-
-array-read-count : tie.Need-array-read-count
-array-read-count c = let s = at (c .before .before .before .before) in search needs
-
-cast-count : tie.Need-cast-count
-cast-count c = let s = at (c .before .before .before .before) in search needs
+extent-of-requires : tie.Need-extent-of-requires
+extent-of-requires c κs = let u = c .before in readable _ (u .pre .0 .opened) _ (u .pre .1) _ (u .pre .3)
 
 declared-size-requires : tie.Need-declared-size-requires
-declared-size-requires c κs = let s = at (c .before .before .before .before) in (omega arith, record { place = s .inside .place; room = omega arith })
+declared-size-requires c κs =
+    let p = at c in
+    (omega (arith, declared-low _ _ p, records-low _ _ p), record { place = p .place; room = omega (arith, records-inside _ _ p .room, declared-low _ _ p) })
 
 sub-result : tie.Need-sub-result
-sub-result c = let s = at (c .before .before .before .before .before) in omega arith
-
-sub-result-2 : tie.Need-sub-result-2
-sub-result-2 c = let s = at (c .before .before .before .before .before) in omega arith
+sub-result c = declared-low _ _ (at (c .before .before))
 
 cast-result : tie.Need-cast-result
-cast-result c = let s = at (c .before .before .before .before .before) in omega arith
+cast-result c = omega (arith, records-low _ _ (at (c .before .before)))
 
 add-result : tie.Need-add-result
 add-result c =
-    let u = c .before .before .before .before .before in
-    let s = at u in
-    record { fits = omega (arith, c .declared-size .ensures, declared-low (u .args .plan .now) (getD (u .args .o .«body_starts») (u .args .b) 0) (getD (u .args .o .declarations) (u .args .b) 0)) }
+    let p = at (c .before .before) in
+    let e = c .before .before .extent-of .result in
+    record { fits = omega (arith, c .before .declared-size .ensures, given.declared-low (c .before .before .before .before .args .plan .now) (e .from) (e .declarations), declared-low _ _ p, records-low _ _ p) }
 
 returns : tie.Need-returns
 returns c =
-    let u = c .before .before .before .before .before in
-    let s = at u in
-    called-counted _ (u .pre .0) _ (u .pre .2) (u .pre .3) _ _ _ _ (s .from-is) (s .end-is) (s .declarations-are) (c .declared-size .ensures)
+    let u = c .before .before .before .before in
+    let e = c .before .before .extent-of in
+    ap (λ n. n + (e .result .records - e .result .declarations)) (c .before .declared-size .ensures) ∙ sym (called-at _ _ (at (c .before .before))) ∙ ap (λ (b : ℕ). size (called (u .args .plan .now) b)) (ap (λ x. x .body) (e .ensures))
 
 pub pass-size-spec : {M : Type 1} → statement M
 pass-size-spec =
     tie.close
-    (tie.spec
-    cast-bodies
-    mul-from
-    array-read-from
-    cast-from
-    add-end
-    mul-end
-    array-read-end
-    cast-end
-    array-read-count
-    cast-count
-    declared-size-requires
-    sub-result
-    sub-result-2
-    cast-result
-    add-result
-    returns)
+    (tie.spec extent-of-requires declared-size-requires sub-result cast-result add-result returns)

@@ -7,24 +7,15 @@ use lib.Dec.{eqb}
 use lib.ListN.{getD}
 use Rattle.model.specs.declared.Verdict.the-variants.{Accepted}
 use Rattle.model.specs.Blocks.{Block, size}
-use Rattle.model.specs.Expanding.{given, declared}
-use Rattle.reading.specs.declared.Fields.{Fields}
-use Rattle.reading.specs.Bytes.{kind-of, body-count, records-in, table, fields-at}
+use Rattle.model.specs.Expanding.{declared}
+use Rattle.reading.specs.Bytes.{kind-of, body-count, records-in, fields-at}
 use Rattle.format.specs.Opening.{opening}
-use Rattle.format.specs.Plans.{declaration-of, pass-at}
+use Rattle.format.specs.Plans.{pass-at}
 
 -- a file that opens as a declared plan
 pub record DeclaredFile (f : List ℕ) : Type 0 where
   pub opened : Accepted ≡ opening f
   pub kind : kind-of f ≡ 1
-
--- what a declaration with the fields x gives
-unfoldable pub given-by : Fields → Block
-given-by x = let d = declaration-of x in given (d .mode) (d .side) (d .array) Block.done
-
--- what the n declarations from record r on give
-unfoldable pub declared-from : List ℕ → ℕ → ℕ → Block
-declared-from f r n = declared (table (λ i. declaration-of (fields-at f (r + i))) n) Block.done
 
 -- what stands for a call of body b: what the pass's declarations give, and then its other records
 unfoldable pub called : List ℕ → ℕ → Block

@@ -4,9 +4,10 @@ use Prim.Native.Nat.{_+_, _*_, _-_, _≤_}
 use native.Mathlib.Omega.{arith}
 use lib.ListN.{length, getD}
 use Rattle.sizes.specs.Inner.Sizes.{record-size}
-use Rattle.writer.specs.Inner.Pieces.{over, bytes-of, pieces}
-use Rattle.writer.proofs.Records.{bytes-length, bytes-none}
-use Rattle.writer.proofs.Over.{lent-room}
+use Rattle.given.specs.Inner.Over.{over, bytes-of}
+use Rattle.writer.specs.Inner.Pieces.{pieces}
+use Rattle.given.proofs.Records.{bytes-length, bytes-none}
+use Rattle.given.proofs.Over.{lent-room}
 use Rattle.sizes.proofs.Body0.{place-more, place-within, body0-few}
 use Rattle.writer.proofs.Pieces.{pieces-none, pieces-length, pieces-written}
 use borrow.Author.Needs.{needs}

@@ -4,8 +4,9 @@ use Prim.Native.Nat.{_-_, _≤_}
 use native.Mathlib.Omega.{arith}
 use lib.ListN.{length, take, length-set}
 use lib.Seq.{take-all}
-use Rattle.writer.specs.Inner.Pieces.{over}
-use Rattle.writer.proofs.Over.{over-none, over-next}
+use Rattle.given.specs.Inner.Over.{over}
+use Rattle.given.proofs.Over.{over-none}
+use Rattle.writer.proofs.Over.{over-next}
 use borrow.Author.Needs.{needs}
 use Rattle.writer.proofs.put_bytes.Statement.{statement}
 use Rattle.writer.proofs.put_bytes.Tie as tie

@@ -4,7 +4,7 @@ use native.Mathlib.Omega.{arith}
 use lib.ListN.{length-set}
 use lib.Seq.{sets-eq}
 use Rattle.files.specs.Files.{u16-bytes}
-use Rattle.writer.specs.Inner.Pieces.{over}
+use Rattle.given.specs.Inner.Over.{over}
 use borrow.Author.Needs.{needs}
 use Rattle.writer.proofs.put_entry.Statement.{statement}
 use Rattle.writer.proofs.put_entry.Tie as tie

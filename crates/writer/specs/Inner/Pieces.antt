@@ -1,27 +1,26 @@
 -- No promise of an entry point rests on this text: what the expansion has for each record of body 0, in the order in which it is written.
-use Prim.Native.Nat.{ℕ, zero, suc, _+_, _-_, _≤_, _<_}
+use Prim.Native.Nat.{ℕ, zero, suc, _+_, _*_, _-_, _≤_}
 use mathlib.Core.Bool.{cond}
 use mathlib.Core.List.{List, [], _∷_, _++_}
 use lib.Dec.{eqb}
-use lib.ListN.{length, drop}
+use lib.ListN.{getD, take, drop}
 use Rattle.reading.specs.declared.Fields.{Fields}
-use Rattle.reading.specs.Bytes.{fields-at, first-arm, second-arm}
-use Rattle.files.specs.Files.{record-bytes, fields, block-fields, joined}
+use Rattle.reading.specs.Bytes.{array-count, fields-at, first-arm, second-arm}
+use Rattle.files.specs.Files.{u16-bytes, fields, block-fields}
 use Rattle.sizes.specs.Inner.Sizes.{called, place}
-use Rattle.sizes.proofs.Walks.{second, next}
 
--- n declarations, from record r on
-pub record DeclarationsAt (f : List ℕ) (r n : ℕ) : Type 0 where
-  pub few : r + n ≤ 1024
-  pub sides : (i : ℕ) → i < n → fields-at f (r + i) .side < 2
+-- the arms of record r of body 0, with the fields x: where they begin in the expansion rises, and is not past 1,024
+pub record Arms (places : List ℕ) (r : ℕ) (x : Fields) : Type 0 where
+  pub inside : r + 1 + first-arm x + second-arm x ≤ 1024
+  pub one-rises : getD places (r + 1) 0 ≤ getD places (r + 1 + first-arm x) 0
+  pub two-rises : getD places (r + 1 + first-arm x) 0 ≤ getD places (r + 1 + first-arm x + second-arm x) 0
+  pub low : getD places (r + 1 + first-arm x + second-arm x) 0 ≤ 1024
 
--- new bytes over the front of the old ones
-unfoldable pub over : List ℕ → List ℕ → List ℕ
-over new old = new ++ drop (length new) old
-
--- the bytes of records, one after the other
-unfoldable pub bytes-of : List Fields → List ℕ
-bytes-of l = joined record-bytes l
+-- that record with its arm counts grown to fit
+unfoldable pub nested : List ℕ → ℕ → Fields → Fields
+nested places r x =
+    let second = r + 1 + first-arm x in
+    fields (x .kind) 0 0 (getD places second 0 - getD places (r + 1) 0) (getD places (second + second-arm x) 0 - getD places second 0)
 
 -- the records that stand for record r of body 0: those of a call; a branch or a loop with its arm counts grown to fit
 unfoldable pub piece : List ℕ → ℕ → List Fields
@@ -35,3 +34,7 @@ piece f r =
 unfoldable pub pieces : List ℕ → ℕ → List Fields
 pieces f zero = []
 pieces f (suc r) = pieces f r ++ piece f r
+
+-- header, array lengths and the entry of one body of n records
+unfoldable pub contents-bytes : List ℕ → ℕ → List ℕ
+contents-bytes f n = ((2 ∷ array-count f ∷ 1 ∷ 0 ∷ []) ++ take (2 * array-count f) (drop 4 f)) ++ (u16-bytes n ++ (0 ∷ 0 ∷ []))

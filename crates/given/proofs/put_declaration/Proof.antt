@@ -1,13 +1,13 @@
--- `writer::put_declaration` writes what a declaration gives.
+-- `given::put_declaration` writes what a declaration gives.
 use native.Mathlib.Omega.{arith}
-use Rattle.sizes.specs.Inner.Sizes.{given-by}
-use Rattle.sizes.proofs.Blocks.{same-size}
-use Rattle.writer.proofs.Over.{lent-room}
-use Rattle.sizes.proofs.Passes.{given-some}
-use Rattle.writer.proofs.Passes.{gives-need, gives-mark, gives-both, one-written, two-written}
+use Rattle.files.specs.Inner.Given.{given-by}
+use Rattle.files.proofs.Blocks.{same-size}
+use Rattle.given.proofs.Over.{lent-room}
+use Rattle.files.proofs.Given.{given-some}
+use Rattle.given.proofs.Declarations.{gives-need, gives-mark, gives-both, one-written, two-written}
 use borrow.Author.Needs.{needs}
-use Rattle.writer.proofs.put_declaration.Statement.{statement}
-use Rattle.writer.proofs.put_declaration.Tie as tie
+use Rattle.given.proofs.put_declaration.Statement.{statement}
+use Rattle.given.proofs.put_declaration.Tie as tie
 
 put-given-requires : tie.Need-put-given-requires
 put-given-requires c κs = omega (arith, given-some (c .before .before .before .before .args .x))

@@ -9,8 +9,8 @@ use Rattle.reading.specs.declared.Fields.{Fields}
 use Rattle.files.specs.Files.{record-bytes, block-fields, joined}
 use Rattle.files.proofs.Files.Holding.{joined-length}
 use Rattle.files.proofs.Files.Records.{fields-count}
-use Rattle.writer.specs.Inner.Pieces.{over, bytes-of}
-use Rattle.writer.proofs.Over.{over-none, over-lent}
+use Rattle.given.specs.Inner.Over.{over, bytes-of}
+use Rattle.given.proofs.Over.{over-none, over-lent}
 
 pub joined-append : {A : Type 0} (g : A → List ℕ) (l m : List A) → joined g (l ++ m) ≡ joined g l ++ joined g m
 joined-append g [] m = refl

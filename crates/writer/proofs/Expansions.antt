@@ -16,14 +16,14 @@ use Rattle.format.specs.Inner.Walks.{body0-between}
 use Rattle.reading.proofs.Tables.{getD-table}
 use Rattle.format.proofs.Walking.{Facts, opened-facts, good-parts}
 use Rattle.format.proofs.Trees.{body0-none, body0-branch, body0-loop, body0-call, walk-of, no-arms, body0-good, body0-body}
-use Rattle.expand.specs.Expanded.{expansion-of}
+use Rattle.files.specs.Expansions.{expansion-of}
 use Rattle.sizes.specs.Inner.Sizes.{DeclaredFile, called, place, Places}
 use Rattle.writer.specs.Inner.Pieces.{pieces}
-use Rattle.sizes.proofs.Blocks.{same-size, then-fields, declared-fields, numbered-fields}
+use Rattle.files.proofs.Blocks.{same-size, then-fields, declared-fields, numbered-fields}
 use Rattle.sizes.proofs.Fields.{call-body}
 use Rattle.sizes.proofs.Walks.{second, next, branch-fields, loop-fields, Made, made-between}
 use Rattle.sizes.proofs.Body0.{body0-kind}
 use Rattle.writer.proofs.Pieces.{piece-call, piece-nested, pieces-none, pieces-more, pieces-length}
 
 -- a call's pass
 pass-entry : (ps : List Pass) (b : ℕ) → pass-of ps (suc b) ≡ getD ps b no-pass

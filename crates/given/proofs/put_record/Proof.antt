@@ -1,12 +1,12 @@
--- `writer::put_record` writes the eight bytes of a record.
+-- `given::put_record` writes the eight bytes of a record.
 use native.Mathlib.Omega.{arith}
 use lib.ListN.{length-set}
 use lib.Seq.{sets-eq}
 use Rattle.files.specs.Files.{record-bytes}
-use Rattle.writer.specs.Inner.Pieces.{over}
+use Rattle.given.specs.Inner.Over.{over}
 use borrow.Author.Needs.{needs}
-use Rattle.writer.proofs.put_record.Statement.{statement}
-use Rattle.writer.proofs.put_record.Tie as tie
+use Rattle.given.proofs.put_record.Statement.{statement}
+use Rattle.given.proofs.put_record.Tie as tie
 
 slice-write-out : tie.Need-slice-write-out
 slice-write-out c = search needs

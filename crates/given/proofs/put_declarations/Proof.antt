@@ -1,20 +1,20 @@
--- `writer::put_declarations` writes what declarations give. The invariant: what the first i give is there, and n counts it.
+-- `given::put_declarations` writes what declarations give. The invariant: what the first i give is there, and n counts it.
 use mathlib.Core.Path.{_≡_, refl, sym}
 use Prim.Native.Nat.{_+_, _*_, _-_, _≤_}
 use native.Mathlib.Omega.{arith}
 use lib.ListN.{length}
 use Rattle.model.specs.Blocks.{size}
 use Rattle.files.specs.Files.{block-fields}
-use Rattle.sizes.specs.Inner.Sizes.{given-by, declared-from}
-use Rattle.writer.specs.Inner.Pieces.{over, bytes-of}
-use Rattle.sizes.proofs.Blocks.{same-size}
-use Rattle.writer.proofs.Records.{block-bytes-length, bytes-none}
-use Rattle.writer.proofs.Over.{lent-room}
-use Rattle.sizes.proofs.Passes.{declared-none, declared-step, declared-within}
-use Rattle.writer.proofs.Passes.{declared-written}
+use Rattle.files.specs.Inner.Given.{given-by, declared-from}
+use Rattle.given.specs.Inner.Over.{over, bytes-of}
+use Rattle.files.proofs.Blocks.{same-size}
+use Rattle.given.proofs.Records.{block-bytes-length, bytes-none}
+use Rattle.given.proofs.Over.{lent-room}
+use Rattle.files.proofs.Given.{declared-none, declared-step, declared-within}
+use Rattle.given.proofs.Declarations.{declared-written}
 use borrow.Author.Needs.{needs}
-use Rattle.writer.proofs.put_declarations.Statement.{statement}
-use Rattle.writer.proofs.put_declarations.Tie as tie
+use Rattle.given.proofs.put_declarations.Statement.{statement}
+use Rattle.given.proofs.put_declarations.Tie as tie
 
 abbrev Inv-loop : tie.InvT-loop
 Inv-loop plan bodies out₀ from count n₀ i₀ out n i =

@@ -15,24 +15,46 @@ use Rattle.files.specs.Files.{u16-bytes, record-bytes, Body, joined, front, fil
 use Rattle.reading.proofs.Tables.{arrays-counted}
 use Rattle.format.proofs.Walking.{opened-facts}
 use Rattle.files.proofs.RoundTrip.{plain-length}
-use Rattle.expand.specs.Expanded.{expansion-of, expansion-file}
+use Rattle.files.specs.Expansions.{expansion-of, expansion-file}
 use Rattle.sizes.specs.Inner.Sizes.{DeclaredFile, place}
-use Rattle.writer.specs.Inner.Pieces.{over, bytes-of, pieces}
-use Rattle.writer.proofs.Records.{bytes-length}
-use Rattle.writer.proofs.Over.{over-lent, over-again, over-front}
+use Rattle.given.specs.Inner.Over.{over, bytes-of}
+use Rattle.writer.specs.Inner.Pieces.{pieces, contents-bytes}
+use Rattle.given.proofs.Records.{bytes-length}
+use Rattle.given.proofs.Over.{over-lent}
+use Rattle.writer.proofs.Over.{over-again, over-front}
 use Rattle.writer.proofs.Bytes.{lengths-again}
 use Rattle.writer.proofs.Pieces.{pieces-length}
-use Rattle.expand.proofs.Laws.Pieces.{expansion-fields, expansion-size}
+use Rattle.writer.proofs.Expansions.{expansion-fields, expansion-size}
 
--- header and array lengths, with the entry of the body, with the records
+-- header and array lengths; with the entry of the body and the records
 unfoldable pub lengths-written : List ℕ → List ℕ
 lengths-written f = (2 ∷ array-count f ∷ 1 ∷ 0 ∷ []) ++ take (2 * array-count f) (drop 4 f)
 
-unfoldable pub contents-written : List ℕ → List ℕ
-contents-written f = lengths-written f ++ (u16-bytes (place f (records-in f 0)) ++ (0 ∷ 0 ∷ []))
-
 unfoldable pub records-written : List ℕ → List ℕ
-records-written f = contents-written f ++ bytes-of (pieces f (records-in f 0))
+records-written f = contents-bytes f (place f (records-in f 0)) ++ bytes-of (pieces f (records-in f 0))
+
+-- what each writer leaves of header and contents
+module _ (f : List ℕ) (long : 4 + 2 * array-count f ≤ length f) where
+  lengths-length : length (lengths-written f) ≡ 4 + 2 * array-count f
+  unfolding lengths-written
+  lengths-length =
+      let n : 2 * array-count f ≤ length (drop 4 f) = simp length-drop (omega arith) in
+      omega (arith, length-take-le (2 * array-count f) (drop 4 f) n)
+
+  pub contents-length : (records : ℕ) → length (contents-bytes f records) ≡ 4 + 2 * array-count f + 4
+  unfolding contents-bytes lengths-written
+  contents-length records = omega (arith, length-append (lengths-written f) (u16-bytes records ++ (0 ∷ 0 ∷ [])), lengths-length)
+
+  module _ (old xs ys : List ℕ) where
+    pub lengths-over : (arrays : ℕ) → arrays ≡ array-count f → 4 ≤ length old → xs ≡ over (2 ∷ arrays ∷ 1 ∷ 0 ∷ []) old → ys ≡ over (take (4 + 2 * arrays - 4) (drop 4 f)) (midOf 4 (length xs - 4) xs) → putMid 4 (length xs - 4) xs ys ≡ over (lengths-written f) old
+    unfolding lengths-written
+    lengths-over arrays e h w v =
+        let n : 4 + 2 * arrays - 4 ≡ 2 * array-count f = omega arith in
+        over-lent _ _ old xs ys 4 w refl h v ∙ rw (n, e)
+
+    pub contents-over : (arrays records : ℕ) → arrays ≡ array-count f → 4 + 2 * arrays ≤ length old → xs ≡ over (lengths-written f) old → ys ≡ over (u16-bytes records ++ (0 ∷ 0 ∷ [])) (midOf (4 + 2 * arrays) (length xs - (4 + 2 * arrays)) xs) → putMid (4 + 2 * arrays) (length xs - (4 + 2 * arrays)) xs ys ≡ over (contents-bytes f records) old
+    unfolding contents-bytes lengths-written
+    contents-over arrays records e h w v = over-lent (lengths-written f) _ old xs ys (4 + 2 * arrays) w (lengths-length ∙ rw e) h v
 
 -- the file of a plan of so many arrays and records
 module _ (arrays : Arrays) (l : List Fields) where
@@ -62,22 +84,12 @@ module _ (f : List ℕ) (given : DeclaredFile f) where
   unfolding declared-plan-of
   expansion-length = plain-length (expansion-of f) ∙ omega (arith, arrays-counted f, expansion-size f given)
 
-  pub lengths-length : length (lengths-written f) ≡ 4 + 2 * array-count f
-  unfolding lengths-written
-  lengths-length =
-      let n : 2 * array-count f ≤ length (drop 4 f) = simp length-drop (omega (arith, contents-within)) in
-      omega (arith, length-take-le (2 * array-count f) (drop 4 f) n)
-
-  pub contents-length : length (contents-written f) ≡ 4 + 2 * array-count f + 4
-  unfolding contents-written
-  contents-length = omega (arith, length-append (lengths-written f) (u16-bytes (place f (records-in f 0)) ++ (0 ∷ 0 ∷ [])), lengths-length)
-
   pub records-length : length (records-written f) ≡ 4 + 2 * array-count f + 4 + 8 * place f (records-in f 0)
   unfolding records-written
-  records-length = omega (arith, length-append (contents-written f) (bytes-of (pieces f (records-in f 0))), contents-length, bytes-length (pieces f (records-in f 0)), pieces-length f (records-in f 0))
+  records-length = omega (arith, length-append (contents-bytes f (place f (records-in f 0))) (bytes-of (pieces f (records-in f 0))), contents-length f contents-within (place f (records-in f 0)), bytes-length (pieces f (records-in f 0)), pieces-length f (records-in f 0))
 
   written-is : ((i : ℕ) → byte-at f i < 256) → records-written f ≡ summed (arrays-of f) (pieces f (records-in f 0))
-  unfolding records-written contents-written lengths-written
+  unfolding records-written contents-bytes
   written-is small = rw (arrays-counted f, lengths-again f small contents-within, pieces-length f (records-in f 0))
 
   file-is : ((i : ℕ) → byte-at f i < 256) → records-written f ++ check-bytes (records-written f) ≡ expansion-file f
@@ -87,21 +99,11 @@ module _ (f : List ℕ) (given : DeclaredFile f) where
       ∙ plain-whole (arrays-of f) (pieces f (records-in f 0))
       ∙ ap (λ (l : List Fields). file 2 (arrays-of f) (record { declarations = 0; records = l } ∷ [])) (sym (expansion-fields f given))
 
-  -- what each writer leaves
+  -- what the writers of the records and of the check bytes leave
   module _ (old xs ys : List ℕ) where
-    pub lengths-over : (arrays : ℕ) → arrays ≡ array-count f → 4 ≤ length old → xs ≡ over (2 ∷ arrays ∷ 1 ∷ 0 ∷ []) old → ys ≡ over (take (4 + 2 * arrays - 4) (drop 4 f)) (midOf 4 (length xs - 4) xs) → putMid 4 (length xs - 4) xs ys ≡ over (lengths-written f) old
-    unfolding lengths-written
-    lengths-over arrays e h w v =
-        let n : 4 + 2 * arrays - 4 ≡ 2 * array-count f = omega arith in
-        over-lent _ _ old xs ys 4 w refl h v ∙ rw (n, e)
-
-    pub contents-over : (at records : ℕ) → at ≡ 4 + 2 * array-count f → records ≡ place f (records-in f 0) → at ≤ length old → xs ≡ over (lengths-written f) old → ys ≡ over (u16-bytes records ++ (0 ∷ 0 ∷ [])) (midOf at (length xs - at) xs) → putMid at (length xs - at) xs ys ≡ over (contents-written f) old
-    unfolding contents-written
-    contents-over at records e n h w v = over-lent _ _ old xs ys at w (lengths-length ∙ sym e) h v ∙ rw n
-
-    pub records-over : (at end : ℕ) → at ≡ 4 + 2 * array-count f + 4 → end ≡ records-in f 0 → at ≤ length old → xs ≡ over (contents-written f) old → ys ≡ over (bytes-of (pieces f end)) (midOf at (length xs - at) xs) → putMid at (length xs - at) xs ys ≡ over (records-written f) old
+    pub records-over : (at end records : ℕ) → at ≡ 4 + 2 * array-count f + 4 → end ≡ records-in f 0 → records ≡ place f (records-in f 0) → at ≤ length old → xs ≡ over (contents-bytes f records) old → ys ≡ over (bytes-of (pieces f end)) (midOf at (length xs - at) xs) → putMid at (length xs - at) xs ys ≡ over (records-written f) old
     unfolding records-written
-    records-over at end e n h w v = over-lent _ _ old xs ys at w (contents-length ∙ sym e) h v ∙ rw n
+    records-over at end records e n m h w v = over-lent (contents-bytes f records) _ old xs ys at w (contents-length f contents-within records ∙ sym e) h v ∙ rw (n, m)
 
     pub file-over : ((i : ℕ) → byte-at f i < 256) → (n : ℕ) → n ≡ 4 + 2 * array-count f + 4 + 8 * place f (records-in f 0) → xs ≡ over (records-written f) old → ys ≡ over (take n xs ++ check-bytes (take n xs)) xs → ys ≡ over (expansion-file f) old
     file-over small n e w v =

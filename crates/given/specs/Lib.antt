@@ -1,0 +1,2 @@
+-- What declarations give, as it is written.
+pub mod Inner

@@ -1,0 +1,2 @@
+-- Where a pass stands.
+pub mod Inner
