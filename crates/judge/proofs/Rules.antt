@@ -22,11 +22,12 @@ use Rattle.format.specs.Plans.{side-of, action-of, declaration-of, pass-at, dec
 use Rattle.reading.proofs.Ranges.{in-range, out-of-range}
 use Rattle.model.proofs.Booleans.{and-out}
 use Rattle.model.proofs.Rows.{holds, held, skips, skipped, empty, pass, passed}
-use Rattle.judge.specs.declared.Extent.{Extent}
-use Rattle.judge.specs.Judged.{declared-before, record-rows, all-written, w-rows, pass-rows, judge-rows, judged}
+use Rattle.passes.specs.declared.Extent.{Extent}
+use Rattle.permits.specs.Permits.{declared-before, record-rows}
+use Rattle.judge.specs.Judged.{all-written, w-rows, pass-rows, judge-rows, judged}
 use Rattle.judge.specs.Claims.{Claim15}
-use Rattle.judge.specs.Inner.Passes.{PassAt}
-use Rattle.judge.proofs.Laws.Records.{declared-low, other-kind, others-walk, others-block}
+use Rattle.passes.specs.Inner.Passes.{PassAt}
+use Rattle.passes.proofs.Records.{declared-low, other-kind, others-walk, others-block}
 use Rattle.judge.proofs.Laws.Passes.{judged-passes}
 use Rattle.judge.proofs.Rules.Tables.{each-accepts, all-table}
 use Rattle.judge.proofs.Rules.Declarations.{once-table}

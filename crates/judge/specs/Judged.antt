@@ -1,39 +1,21 @@
--- Numbers 11 to 15 (document 01, 'Numbers by the place where each is checked' and 'Judging and expanding').
+-- Numbers 11 and 15, and those of a pass by record, 12 to 14, in their order (document 01, 'Numbers by the place where each is checked' and 'Judging and expanding').
 use Prim.Native.Nat.{ℕ, zero, suc, _+_, _-_}
-use mathlib.Core.Bool.{Bool, true, cond, not, _&&_}
+use mathlib.Core.Bool.{Bool, true, not, _&&_}
 use mathlib.Core.List.{List, [], _∷_, _++_}
-use lib.Dec.{ltb, eqb}
+use lib.Dec.{eqb}
 use Rattle.model.specs.declared.Verdict.{Verdict}
-use Rattle.model.specs.Lists.{any}
 use Rattle.model.specs.Sides.{Side, Arrays, length-of, first-of}
 use Rattle.model.specs.Blocks.{Block}
-use Rattle.model.specs.Judging.{Declaration, permits, always-writes}
+use Rattle.model.specs.Judging.{always-writes}
 use Rattle.model.specs.Rows.{Row, row, first, each}
-use Rattle.reading.specs.Bytes.{kind-of, body-count, table, arrays-of, records-in, declarations-in, first-record, fields-at, between}
+use Rattle.reading.specs.Bytes.{kind-of, body-count, arrays-of, records-in, declarations-in, first-record, fields-at}
 use Rattle.format.specs.Opening.{open-rows}
-use Rattle.format.specs.Plans.{action-of, declaration-of, pass-at}
+use Rattle.format.specs.Plans.{declaration-of, pass-at}
+use Rattle.permits.specs.Permits.{record-rows}
 
 -- "11 judge or expand without kind 1"
 abbrev pub kind-row : List ℕ → Row
 kind-row f = row (not (eqb (kind-of f) 1)) 11 0
-
--- "12 second declaration of an array": declaration i of pass b has the array of an earlier one
-unfoldable pub declared-before : List ℕ → ℕ → ℕ → Bool
-declared-before f b i =
-    let r = first-record f b in
-    any (λ (d : Declaration). eqb (d .array) (declaration-of (fields-at f (r + i)) .array)) (table (λ j. declaration-of (fields-at f (r + j))) i)
-
--- the rows of record i of pass b: "12 second declaration of an array; 13 a read or write undeclared; 14 kind 3, 4 or 5"
-unfoldable pub record-rows : List ℕ → ℕ → ℕ → List Row
-record-rows f b i =
-    let r = first-record f b + i in
-    let x = fields-at f r in
-    let permitted = permits (pass-at f b .declarations) (action-of x) in
-    cond (ltb i (declarations-in f b))
-    (row (declared-before f b i) 12 r ∷ [])
-    (row (between 1 2 (x .kind) && not permitted) 13 r
-    ∷ row (between 3 5 (x .kind)) 14 r
-    ∷ [])
 
 -- whether every way through a block writes each of n cells, from cell c on, on side s
 unfoldable pub all-written : Arrays → Side → Block → ℕ → ℕ → Bool

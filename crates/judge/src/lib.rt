@@ -1,32 +1,99 @@
 // The judge: numbers 11 to 15.
 ghost use mathlib.Core.Path.{_≡_};
-ghost use Rattle.format.specs.Opening.{opened};
-ghost use Rattle.judge.specs.Judged.{judged};
+ghost use Prim.Native.Nat.{ℕ, suc, _-_};
+ghost use Rattle.model.specs.declared.Verdict.the-variants.{Accepted};
+ghost use Rattle.model.specs.Rows.{first, each};
+ghost use Rattle.reading.specs.Bytes.{kind-of, body-count, declarations-in};
+ghost use Rattle.contents.specs.Found.{found};
+ghost use Rattle.format.specs.Opening.{opening, opened};
+ghost use Rattle.passes.specs.Inner.Passes.{PassAt};
+ghost use Rattle.permits.specs.Inner.Uses.{ByArray};
+ghost use Rattle.marks.specs.Inner.Marks.{Tables};
+ghost use Rattle.judge.specs.Judged.{w-rows, pass-rows, judged};
+ghost use Rattle.judge.specs.Inner.Unmet.{Decides};
 use contents::Opened;
 use format::open;
+use marks::mark_written;
+use marks::met;
 use model::Verdict;
-use passes::all_passes;
+use passes::Extent;
+use passes::extent_of;
+use permits::Declared;
+use permits::declarations;
+use permits::uses;
+use reading::kinds::CELLS;
 use reading::kinds::DECLARED;
-use reading::kinds::NAMES;
+use reading::kinds::STARTS;
+use reading::record_at;
 
-mod passes;
-mod permits;
-mod written;
-
-// Where a pass stands: where the bodies begin in the file, its body's number, its first record, how many declarations it has and how many records with them.
-pub struct Extent {
-    pub bodies: usize,
-    pub body: usize,
-    pub from: usize,
-    pub declarations: usize,
-    pub records: usize,
+// Number 15 by the set of the cells that every way through the pass writes: the lowest declaration that is not met.
+fn first_unmet(plan: &[u8], starts: &[u16; STARTS], set: &[bool; CELLS], e: Extent) -> Verdict
+    requires { ⌜ PassAt (now plan) e × Decides (now plan) (now starts) (now set) e ⌝ }
+    ensures { λ v. ⌜ v ≡ first (each (declarations-in (now (plan .entry)) (e .body)) (w-rows (now (plan .entry)) (e .body))) ⌝ }
+{
+    let mut i: usize = 0;
+    while i < e.declarations {
+        let r = e.from + i;
+        if !met(starts, set, record_at(plan, e.bodies, r)) {
+            return Verdict::Refused(15, r as u16);
+        }
+        i += 1;
+    }
+    Verdict::Accepted
 }
 
-// What the declarations of a pass give: number 12, or kind and side of each array's declaration, 0 and 0 where it has none.
-pub struct Declared {
-    pub verdict: Verdict,
-    pub kinds: [u8; NAMES],
-    pub sides: [u8; NAMES],
+// Number 15 of a pass.
+fn unmet(plan: &[u8], starts: &[u16; STARTS], e: Extent, d: Declared) -> Verdict
+    requires { ⌜ PassAt (now plan) e × ByArray (now plan) e d × Tables (now plan) (now starts) (d .sides) ⌝ }
+    ensures { λ v. ⌜ v ≡ first (each (declarations-in (now (plan .entry)) (e .body)) (w-rows (now (plan .entry)) (e .body))) ⌝ }
+{
+    let sides = d.sides;
+    let mut set = [false; CELLS];
+    mark_written(
+        plan,
+        e.bodies,
+        starts,
+        &sides,
+        &mut set,
+        e.from + e.declarations,
+        e.from + e.records,
+    );
+    first_unmet(plan, starts, &set, e)
+}
+
+// Numbers 12 to 14 by record, then 15, of one pass; `starts` has the first cell of each array.
+fn judge_pass(plan: &[u8], starts: &[u16; STARTS], e: Extent) -> Verdict
+    requires { ⌜ PassAt (now plan) e × (now starts ≡ found (now plan) .«array_starts») ⌝ }
+    ensures { λ v. ⌜ v ≡ first (pass-rows (now (plan .entry)) (e .body)) ⌝ }
+{
+    let d = declarations(plan, e);
+    let twice = d.verdict;
+    let Verdict::Accepted = twice else {
+        return twice;
+    };
+    let used = uses(plan, e, d);
+    let Verdict::Accepted = used else {
+        return used;
+    };
+    unmet(plan, starts, e, d)
+}
+
+// Numbers 12 to 15 of every pass, in which opening found o.
+fn all_passes(plan: &[u8], o: Opened) -> Verdict
+    requires { ⌜ (Accepted ≡ opening (now plan)) × (kind-of (now plan) ≡ 1) × (o ≡ found (now plan)) ⌝ }
+    ensures { λ v. ⌜ v ≡ first (each (body-count (now (plan .entry)) - 1) (λ (b : ℕ). pass-rows (now (plan .entry)) (suc b))) ⌝ }
+{
+    let bodies = o.bodies as usize;
+    let starts = o.array_starts;
+    let mut b: usize = 1;
+    while b < bodies {
+        let v = judge_pass(plan, &starts, extent_of(o, b));
+        let Verdict::Accepted = v else {
+            return v;
+        };
+        b += 1;
+    }
+    Verdict::Accepted
 }
 
 // Judges a plan file that opening has found to be o.

@@ -4,22 +4,18 @@ use mathlib.Core.List.{List}
 use Prim.Native.Nat.{ℕ, zero, suc, _+_, _-_, _≤_, _<_}
 use native.Mathlib.Decide.{decLt}
 use native.Mathlib.Omega.{arith}
-use lib.ListN.{getD}
 use borrow.Author.Tests.{eq-eqb, ne-eqb}
 use Rattle.model.specs.declared.Verdict.{Verdict}
 use Rattle.model.specs.declared.Verdict.the-variants.{Accepted, Refused}
-use Rattle.contents.specs.declared.Opened.{Opened}
 use Rattle.model.specs.Rows.{Row, first, each}
 use Rattle.reading.specs.Bytes.{kind-of, body-count, records-in, declarations-in}
 use Rattle.format.specs.Opening.{open-rows, opening}
-use Rattle.contents.specs.Found.{found}
 use Rattle.model.proofs.Rows.{holds, skips, stop, pass, each-more, each-stop}
-use Rattle.contents.proofs.Found.{body-at}
-use Rattle.format.proofs.Walking.{opened-facts}
-use Rattle.judge.specs.declared.Extent.{Extent}
-use Rattle.judge.specs.Judged.{record-rows, w-rows, pass-rows, judge-rows, judged}
-use Rattle.judge.specs.Inner.Passes.{PassAt}
-use Rattle.judge.proofs.Laws.Records.{declared-low}
+use Rattle.passes.specs.declared.Extent.{Extent}
+use Rattle.permits.specs.Permits.{record-rows}
+use Rattle.judge.specs.Judged.{w-rows, pass-rows, judge-rows, judged}
+use Rattle.passes.specs.Inner.Passes.{PassAt}
+use Rattle.passes.proofs.Records.{declared-low}
 
 -- the answer of the first n entries, where they have one, is that of more
 early : (rows : ℕ → List Row) (v : Verdict) → (v ≡ Accepted → ⊥) → (n m : ℕ) → n ≤ m → v ≡ first (each n rows) → v ≡ first (each m rows)
@@ -58,24 +54,6 @@ module _ (f : List ℕ) where
 
     pub passes-stop : (v ≡ Accepted → ⊥) → (n : ℕ) → b < n → v ≡ first (passes-rows (n - 1))
     passes-stop nay n h = each-stop _ (b - 1) (n - 1) v nay a here (omega arith)
-
-  -- what opening found of body b
-  pub extent : (o : Opened) → o ≡ found f → Accepted ≡ opening f → kind-of f ≡ 1 → (b : ℕ) → 1 ≤ b → b < body-count f →
-      (getD (o .«body_starts») b 0 ≤ getD (o .«body_starts») (b + 1) 0) × PassAt f (record { bodies = o .offset; body = b; from = getD (o .«body_starts») b 0; declarations = getD (o .declarations) b 0; records = getD (o .«body_starts») (b + 1) 0 - getD (o .«body_starts») b 0 })
-  extent o e a k b l h =
-      let x = body-at f o e (opened-facts f a .bounds) b h in (
-        omega (arith, x .from-is, x .end-is),
-        record {
-          opens = a;
-          declared = k;
-          place = x .inside .place;
-          low = l;
-          high = h;
-          from-is = x .from-is;
-          declarations-are = x .declarations-are;
-          records-are = omega (arith, x .from-is, x .end-is);
-        },
-      )
 
   -- opening, 11, the passes
   pub judged-opening : (v : Verdict) → (v ≡ Accepted → ⊥) → v ≡ opening f → v ≡ judged f

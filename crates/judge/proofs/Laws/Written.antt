@@ -7,24 +7,24 @@ use native.Mathlib.Numerals.{add-one}
 use native.Mathlib.Omega.{arith}
 use lib.Dec.{eqb}
 use lib.ListN.{getD, replicate}
-use Rattle.model.specs.declared.Verdict.the-variants.{Accepted, Refused}
 use Rattle.model.specs.Sides.{Side, Arrays, length-of, first-of}
 use Rattle.model.specs.Blocks.{Block}
 use Rattle.model.specs.Judging.{always-writes}
 use Rattle.model.proofs.Numbering.{array-from, array-ends}
 use Rattle.reading.specs.declared.Fields.{Fields}
-use Rattle.model.specs.Rows.{row, first}
+use Rattle.model.specs.Rows.{row}
 use Rattle.reading.specs.Bytes.{array-count, arrays-of, fields-at}
 use Rattle.format.specs.Plans.{side-of, declaration-of, pass-at}
-use Rattle.model.proofs.Rows.{holds, skips, empty}
 use Rattle.reading.proofs.Tables.{first-more}
-use Rattle.judge.specs.declared.Declared.{Declared}
-use Rattle.judge.specs.declared.Extent.{Extent}
+use Rattle.permits.specs.declared.Declared.{Declared}
+use Rattle.passes.specs.declared.Extent.{Extent}
 use Rattle.judge.specs.Judged.{all-written, w-rows}
-use Rattle.judge.specs.Inner.Passes.{PassAt, ByArray}
+use Rattle.judge.specs.Inner.Unmet.{Decides}
+use Rattle.passes.specs.Inner.Passes.{PassAt}
+use Rattle.permits.specs.Inner.Uses.{ByArray}
 use Rattle.marks.specs.Inner.Marks.{marked, Adds, all-marked, Tables, always, met}
-use Rattle.judge.proofs.Laws.Records.{declaration-array, others-block}
-use Rattle.judge.proofs.Laws.Declarations.{side-kept}
+use Rattle.passes.proofs.Records.{declaration-array, others-block}
+use Rattle.permits.proofs.ByArray.{side-kept}
 use Rattle.marks.proofs.Marks.{none-marked}
 
 -- cells that are marked exactly if they are always written
@@ -33,42 +33,42 @@ unfolding all-marked all-written
 all-same arrays s body l c zero h = refl
 all-same arrays s body l c (suc n) h = rw (h c (omega arith) (omega arith), all-same arrays s body l (suc c) n (λ k u v. h k (omega arith) (omega arith)))
 
-module _ (f : List ℕ) (e : Extent) (p : PassAt f e) (d : Declared) (b : ByArray f e d) (starts : List ℕ) (t : Tables f starts (d .sides)) (i : ℕ) (h : i < e .declarations) (x : Fields) (ex : x ≡ fields-at f (e .from + i)) where
-  on-array : x .array < array-count f
-  on-array = rw ex (declaration-array f e p i h .1)
+module _ (f : List ℕ) (e : Extent) (p : PassAt f e) (d : Declared) (b : ByArray f e d) (starts : List ℕ) (t : Tables f starts (d .sides)) where
+  module _ (i : ℕ) (h : i < e .declarations) where
+    abbrev x : Fields
+    x = fields-at f (e .from + i)
 
-  start : getD starts (x .array) 0 ≡ first-of (arrays-of f) (x .array)
-  start = t .starts-are (x .array) (omega (arith, on-array))
+    on-array : x .array < array-count f
+    on-array = declaration-array f e p i h .1
 
-  next : getD starts (x .array + 1) 0 ≡ first-of (arrays-of f) (x .array) + length-of (arrays-of f) (x .array)
-  next = t .starts-are (x .array + 1) (omega (arith, on-array)) ∙ rw add-one (first-more (arrays-of f) (x .array))
+    start : getD starts (x .array) 0 ≡ first-of (arrays-of f) (x .array)
+    start = t .starts-are (x .array) (omega (arith, on-array))
 
-  pub starts-fit : (x .array < 32) × (getD starts (x .array) 0 ≤ getD starts (x .array + 1) 0) × (getD starts (x .array + 1) 0 ≤ 4096)
-  starts-fit = (omega (arith, on-array, t .arrays-low), omega (arith, start, next), omega (arith, next, array-ends (arrays-of f) (x .array), t .cells-low))
+    next : getD starts (x .array + 1) 0 ≡ first-of (arrays-of f) (x .array) + length-of (arrays-of f) (x .array)
+    next = t .starts-are (x .array + 1) (omega (arith, on-array)) ∙ rw add-one (first-more (arrays-of f) (x .array))
 
-  module _ (l : List Bool) (a : Adds (replicate 4096 false) l (always f (d .sides) (e .from + e .declarations) (e .from + e .records))) where
-    cell-is : (k : ℕ) → first-of (arrays-of f) (x .array) ≤ k → k < first-of (arrays-of f) (x .array) + length-of (arrays-of f) (x .array) → marked l k ≡ always-writes (arrays-of f) (side-of (x .side)) k (pass-at f (e .body) .body)
-    unfolding always
-    cell-is k u v =
-        let s : getD (d .sides) (x .array) 0 ≡ x .side = rw ex (side-kept f e p d b i h) in
-        rw (none-marked k, array-from (arrays-of f) (x .array) k u v, s, ← others-block f e p) at (a .marks k (omega (arith, array-ends (arrays-of f) (x .array), t .cells-low)))
+    starts-fit : (x .array < 32) × (getD starts (x .array) 0 ≤ getD starts (x .array + 1) 0) × (getD starts (x .array + 1) 0 ≤ 4096)
+    starts-fit = (omega (arith, on-array, t .arrays-low), omega (arith, start, next), omega (arith, next, array-ends (arrays-of f) (x .array), t .cells-low))
 
-    all-is : all-marked l (getD starts (x .array) 0) (getD starts (x .array + 1) 0 - getD starts (x .array) 0) ≡ all-written (arrays-of f) (side-of (x .side)) (pass-at f (e .body) .body) (first-of (arrays-of f) (x .array)) (length-of (arrays-of f) (x .array))
-    all-is =
-        let n : getD starts (x .array + 1) 0 - getD starts (x .array) 0 ≡ length-of (arrays-of f) (x .array) = omega (arith, start, next) in
-        rw (n, start) (all-same (arrays-of f) (side-of (x .side)) (pass-at f (e .body) .body) l (first-of (arrays-of f) (x .array)) (length-of (arrays-of f) (x .array)) cell-is)
+    module _ (l : List Bool) (a : Adds (replicate 4096 false) l (always f (d .sides) (e .from + e .declarations) (e .from + e .records))) where
+      cell-is : (k : ℕ) → first-of (arrays-of f) (x .array) ≤ k → k < first-of (arrays-of f) (x .array) + length-of (arrays-of f) (x .array) → marked l k ≡ always-writes (arrays-of f) (side-of (x .side)) k (pass-at f (e .body) .body)
+      unfolding always
+      cell-is k u v =
+          let s : getD (d .sides) (x .array) 0 ≡ x .side = side-kept f e p d b i h in
+          rw (none-marked k, array-from (arrays-of f) (x .array) k u v, s, ← others-block f e p) at (a .marks k (omega (arith, array-ends (arrays-of f) (x .array), t .cells-low)))
 
-    module _ (m : Bool) (em : m ≡ met starts l x) where
-      w-row : w-rows f (e .body) i ≡ (row (not m) 15 (e .from + i) ∷ [])
+      all-is : all-marked l (getD starts (x .array) 0) (getD starts (x .array + 1) 0 - getD starts (x .array) 0) ≡ all-written (arrays-of f) (side-of (x .side)) (pass-at f (e .body) .body) (first-of (arrays-of f) (x .array)) (length-of (arrays-of f) (x .array))
+      all-is =
+          let n : getD starts (x .array + 1) 0 - getD starts (x .array) 0 ≡ length-of (arrays-of f) (x .array) = omega (arith, start, next) in
+          rw (n, start) (all-same (arrays-of f) (side-of (x .side)) (pass-at f (e .body) .body) l (first-of (arrays-of f) (x .array)) (length-of (arrays-of f) (x .array)) cell-is)
+
+      w-row : w-rows f (e .body) i ≡ (row (not (met starts l x)) 15 (e .from + i) ∷ [])
       unfolding w-rows declaration-of met
-      w-row = rw (em, all-is, ← p .from-is, ← ex) (go (eqb (x .kind) 17) _)
+      w-row = rw (all-is, ← p .from-is) (go (eqb (x .kind) 17) _)
         where
           go : (w all : Bool) → (row (w && not all) 15 (e .from + i) ∷ []) ≡ (row (not (not w || all)) 15 (e .from + i) ∷ [])
           go true all = refl
           go false all = refl
 
-      pub w-unmet : not m ≡ true → Refused 15 (e .from + i) ≡ first (w-rows f (e .body) i)
-      w-unmet z = rw w-row (holds _ _ _ _ z)
-
-      pub w-met : not m ≡ false → Accepted ≡ first (w-rows f (e .body) i)
-      w-met z = rw w-row (skips _ _ _ _ _ z empty)
+  pub decides : (l : List Bool) → Adds (replicate 4096 false) l (always f (d .sides) (e .from + e .declarations) (e .from + e .records)) → Decides f starts l e
+  decides l a = record { fit = λ i h. starts-fit i h; rows = λ i h. w-row i h l a }

@@ -1,9 +1,9 @@
--- `judge::records::use_tests` answers numbers 13 and 14 of a record.
+-- `permits::use_tests` answers numbers 13 and 14 of a record.
 use Rattle.model.proofs.Rows.{holds, skips, empty}
-use Rattle.judge.specs.Inner.Passes.{use-rows}
+use Rattle.permits.specs.Inner.Uses.{use-rows}
 use borrow.Author.Needs.{needs}
-use Rattle.judge.proofs.permits.use_tests.Statement.{statement}
-use Rattle.judge.proofs.permits.use_tests.Tie as tie
+use Rattle.permits.proofs.use_tests.Statement.{statement}
+use Rattle.permits.proofs.use_tests.Tie as tie
 
 cast-place : tie.Need-cast-place
 cast-place c = search needs

@@ -1,11 +1,11 @@
--- `judge::passes::judge_pass` answers 12 to 14 by record, then 15, of one pass.
+-- `judge::judge_pass` answers 12 to 14 by record, then 15, of one pass.
 use mathlib.Core.Path.{sym, _∙_}
 use Rattle.model.proofs.Rows.{turned}
-use Rattle.judge.proofs.Laws.Declarations.{tables}
+use Rattle.permits.proofs.ByArray.{tables}
 use Rattle.judge.proofs.Laws.Passes.{pass-twice, pass-used, pass-unmet}
 use borrow.Author.Needs.{needs}
-use Rattle.judge.proofs.passes.judge_pass.Statement.{statement}
-use Rattle.judge.proofs.passes.judge_pass.Tie as tie
+use Rattle.judge.proofs.judge_pass.Statement.{statement}
+use Rattle.judge.proofs.judge_pass.Tie as tie
 
 declarations-requires : tie.Need-declarations-requires
 declarations-requires c κs = c .before .pre .0

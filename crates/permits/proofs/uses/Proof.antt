@@ -1,16 +1,16 @@
--- `judge::records::uses` answers numbers 13 and 14 of the records after the declarations. The invariant: no record before the i-th stops.
+-- `permits::uses` answers numbers 13 and 14 of the records after the declarations. The invariant: no record before the i-th stops.
 use mathlib.Core.Path.{_≡_, sym, ap, _∙_}
 use Prim.Native.Nat.{_-_, _≤_, _<_}
 use native.Mathlib.Omega.{arith}
 use Rattle.model.specs.declared.Verdict.the-variants.{Accepted}
 use Rattle.model.specs.Rows.{first, each}
 use Rattle.model.proofs.Rows.{turned, each-more, each-stop}
-use Rattle.judge.specs.Judged.{record-rows}
-use Rattle.judge.proofs.Laws.Records.{declared-low, records-low, records-inside}
-use Rattle.judge.proofs.Laws.Declarations.{array-low, uses-are}
+use Rattle.permits.specs.Permits.{record-rows}
+use Rattle.passes.proofs.Records.{declared-low, records-low, records-inside}
+use Rattle.permits.proofs.ByArray.{array-low, uses-are}
 use borrow.Author.Needs.{needs}
-use Rattle.judge.proofs.permits.uses.Statement.{statement}
-use Rattle.judge.proofs.permits.uses.Tie as tie
+use Rattle.permits.proofs.uses.Statement.{statement}
+use Rattle.permits.proofs.uses.Tie as tie
 
 abbrev Inv-loop : tie.InvT-loop
 Inv-loop plan e bodies kinds sides i₀ i = (e .declarations ≤ i) × (i ≤ e .records) × (Accepted ≡ first (each i (record-rows plan (e .body))))

@@ -1,4 +1,4 @@
--- `judge::records::declarations` answers number 12, and finds the declarations by array. The invariant: no declaration before the i-th stops, and `kinds` and
+-- `permits::declarations` answers number 12, and finds the declarations by array. The invariant: no declaration before the i-th stops, and `kinds` and
 -- `sides` are those of the declarations before it.
 use mathlib.Core.Path.{_≡_, refl}
 use Prim.Native.Nat.{_-_, _≤_, _<_}
@@ -8,13 +8,13 @@ use Rattle.model.specs.declared.Verdict.the-variants.{Accepted}
 use Rattle.model.specs.Rows.{first, each}
 use Rattle.reading.specs.Bytes.{table}
 use Rattle.model.proofs.Rows.{refused, each-none, each-more, each-stop}
-use Rattle.judge.specs.Judged.{record-rows}
-use Rattle.judge.specs.Inner.Passes.{declared-field, kinds-of, sides-of}
-use Rattle.judge.proofs.Laws.Records.{arrays-low, declared-low, records-low, records-inside, declaration-array}
-use Rattle.judge.proofs.Laws.Declarations.{twice, once, stored}
+use Rattle.permits.specs.Permits.{record-rows}
+use Rattle.permits.specs.Inner.Uses.{declared-field, kinds-of, sides-of}
+use Rattle.passes.proofs.Records.{arrays-low, declared-low, records-low, records-inside, declaration-array}
+use Rattle.permits.proofs.ByArray.{twice, once, stored}
 use borrow.Author.Needs.{needs}
-use Rattle.judge.proofs.permits.declarations.Statement.{statement}
-use Rattle.judge.proofs.permits.declarations.Tie as tie
+use Rattle.permits.proofs.declarations.Statement.{statement}
+use Rattle.permits.proofs.declarations.Tie as tie
 
 abbrev Inv-loop : tie.InvT-loop
 Inv-loop plan e bodies kinds₀ sides₀ i₀ kinds sides i =

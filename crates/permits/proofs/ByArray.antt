@@ -24,13 +24,14 @@ use Rattle.format.proofs.Walking.{array-start}
 use Rattle.reading.proofs.Ranges.{out-of-range}
 use Rattle.model.proofs.Rows.{holds, skips, skipped, empty, each-passed}
 use Rattle.reading.proofs.Tables.{getD-table, set-table}
-use Rattle.judge.specs.declared.Declared.{Declared}
-use Rattle.judge.specs.declared.Extent.{Extent}
-use Rattle.judge.specs.Judged.{declared-before, record-rows}
-use Rattle.judge.specs.Inner.Passes.{PassAt, declared-field, kinds-of, ByArray, permitted, use-rows}
+use Rattle.permits.specs.declared.Declared.{Declared}
+use Rattle.passes.specs.declared.Extent.{Extent}
+use Rattle.permits.specs.Permits.{declared-before, record-rows}
+use Rattle.passes.specs.Inner.Passes.{PassAt}
+use Rattle.permits.specs.Inner.Uses.{declared-field, kinds-of, ByArray, permitted, use-rows}
 use Rattle.marks.specs.Inner.Marks.{Tables}
 use Rattle.marks.proofs.Walks.{same-side}
-use Rattle.judge.proofs.Laws.Records.{facts, arrays-low, declaration-kind, declaration-array, other-kind, other-array, other-side}
+use Rattle.passes.proofs.Records.{facts, arrays-low, declaration-kind, declaration-array, other-kind, other-array, other-side}
 
 -- the declarations from record r on
 abbrev declared : List ℕ → ℕ → ℕ → Declaration

@@ -3,11 +3,11 @@ ghost use mathlib.Core.Path.{_≡_};
 ghost use Prim.Native.Nat.{_<_};
 ghost use Rattle.model.specs.Rows.{first, each};
 ghost use Rattle.reading.specs.Bytes.{records-in, declarations-in};
-ghost use Rattle.judge.specs.Judged.{record-rows};
-ghost use Rattle.judge.specs.Inner.Passes.{PassAt, ByArray, permitted, use-rows};
-use crate::Declared;
-use crate::Extent;
+ghost use Rattle.passes.specs.Inner.Passes.{PassAt};
+ghost use Rattle.permits.specs.Permits.{record-rows};
+ghost use Rattle.permits.specs.Inner.Uses.{ByArray, permitted, use-rows};
 use model::Verdict;
+use passes::Extent;
 use reading::Fields;
 use reading::kinds::COPY;
 use reading::kinds::MARK;
@@ -18,6 +18,13 @@ use reading::kinds::RW;
 use reading::kinds::W;
 use reading::kinds::WRITE;
 use reading::record_at;
+
+// What the declarations of a pass give: number 12, or kind and side of each array's declaration, 0 and 0 where it has none.
+pub struct Declared {
+    pub verdict: Verdict,
+    pub kinds: [u8; NAMES],
+    pub sides: [u8; NAMES],
+}
 
 // Number 12, and the declarations by array.
 pub fn declarations(plan: &[u8], e: Extent) -> Declared

@@ -1,5 +1,5 @@
--- No promise of an entry point rests on this text: where a pass stands, and its declarations by array.
-use Prim.Native.Nat.{ℕ, zero, suc, _+_, _≤_, _<_}
+-- No promise of an entry point rests on this text: the declarations of a pass by array, and a record against them.
+use Prim.Native.Nat.{ℕ, zero, suc, _+_}
 use mathlib.Core.Path.{_≡_}
 use mathlib.Core.Bool.{Bool, cond, not, _&&_, _||_}
 use mathlib.Core.List.{List, [], _∷_}
@@ -7,22 +7,10 @@ use lib.Dec.{eqb}
 use Rattle.model.specs.declared.Verdict.the-variants.{Accepted}
 use Rattle.reading.specs.declared.Fields.{Fields}
 use Rattle.model.specs.Rows.{Row, row, first, each}
-use Rattle.reading.specs.Bytes.{kind-of, body-count, table, records-in, declarations-in, first-record, bodies-at, fields-at, between}
-use Rattle.format.specs.Opening.{opening}
-use Rattle.judge.specs.declared.Declared.{Declared}
-use Rattle.judge.specs.declared.Extent.{Extent}
-use Rattle.judge.specs.Judged.{record-rows}
-
--- the file opens as a declared plan, and its pass of that number stands there
-pub record PassAt (f : List ℕ) (e : Extent) : Type 0 where
-  pub opens : Accepted ≡ opening f
-  pub declared : kind-of f ≡ 1
-  pub place : e .bodies ≡ bodies-at f
-  pub low : 1 ≤ e .body
-  pub high : e .body < body-count f
-  pub from-is : e .from ≡ first-record f (e .body)
-  pub declarations-are : e .declarations ≡ declarations-in f (e .body)
-  pub records-are : e .records ≡ records-in f (e .body)
+use Rattle.reading.specs.Bytes.{table, fields-at, between}
+use Rattle.passes.specs.declared.Extent.{Extent}
+use Rattle.permits.specs.declared.Declared.{Declared}
+use Rattle.permits.specs.Permits.{record-rows}
 
 -- a field of the last declaration of array a among the n declarations from record r on; 0 where there is none
 unfoldable pub declared-field : (Fields → ℕ) → List ℕ → ℕ → ℕ → ℕ → ℕ
