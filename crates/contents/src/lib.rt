@@ -1,10 +1,13 @@
 // Numbers 1 to 7: the header, the contents, the tail.
 ghost use mathlib.Core.Path.{_≡_};
-ghost use Prim.Native.Nat.{_≤_};
+ghost use mathlib.Core.Bool.{true, cond};
+ghost use mathlib.Core.List.{List, _++_};
+ghost use Prim.Native.Nat.{ℕ, _+_, _≤_, _<_};
 ghost use lib.ListN.{length};
+ghost use Rattle.model.specs.declared.Verdict.the-variants.{Accepted, Refused};
 ghost use Rattle.model.specs.Rows.{first, each};
-ghost use Rattle.reading.specs.Bytes.{array-count, body-count, record-count, bodies-at};
-ghost use Rattle.contents.specs.Contents.{header-rows, array-rows, body-rows, tail-rows, front-rows};
+ghost use Rattle.reading.specs.Bytes.{byte-at, kind-of, array-count, body-count, records-in, declarations-in, first-record, record-count, bodies-at};
+ghost use Rattle.contents.specs.Contents.{header-fits, header-rows, array-rows, body-rows, tail-rows, front-rows};
 ghost use Rattle.contents.specs.Found.{nothing-found, found, found-by};
 use model::Verdict;
 use reading::byte;
@@ -13,7 +16,6 @@ use reading::kinds::DECLARED;
 use reading::kinds::MOST_ARRAYS;
 use reading::kinds::MOST_BODIES;
 use reading::kinds::MOST_CELLS;
-use reading::kinds::MOST_LENGTH;
 use reading::kinds::MOST_RECORDS;
 use reading::kinds::NAMES;
 use reading::kinds::PLAIN;
@@ -42,6 +44,13 @@ pub struct Arrays {
     pub starts: [u16; STARTS],
 }
 
+// What one body's entry gives: whether number 5 leaves it, its records and its declarations.
+struct Entry {
+    fits: bool,
+    records: u16,
+    declarations: u8,
+}
+
 // What the bodies' entries give: number 5 or the records, with the first record and the declarations of each body.
 pub struct Bodies {
     pub verdict: Verdict,
@@ -50,24 +59,38 @@ pub struct Bodies {
     pub declarations: [u8; NAMES],
 }
 
+// Whether the header's bytes keep their rules.
+fn header_fits(kind: u8, arrays: u8, bodies: u8, zero: u8) -> bool
+    ensures { λ r. ⌜ ((f : List ℕ) → (kind ≡ kind-of f) × (arrays ≡ array-count f) × (bodies ≡ body-count f) × (zero ≡ byte-at f 3) → r ≡ header-fits f) ⌝ }
+{
+    ((DECLARED <= kind) & (kind <= PLAIN))
+        & ((1 <= arrays) & (arrays <= MOST_ARRAYS))
+        & ((1 <= bodies) & (bodies <= MOST_BODIES))
+        & ((kind == DECLARED) | (bodies == 1))
+        & (zero == 0)
+}
+
 // Numbers 1 and 2.
 pub fn header(plan: &[u8]) -> Verdict
     ensures { λ r. ⌜ r ≡ first (header-rows (now (plan .entry))) ⌝ }
 {
-    let kind = byte(plan, 0);
-    let arrays = byte(plan, 1);
-    let bodies = byte(plan, 2);
-    let zero = byte(plan, 3);
     if plan.len() < 4 {
         return Verdict::Refused(1, 0);
     }
-    let fits = ((DECLARED <= kind) & (kind <= PLAIN))
-        & ((1 <= arrays) & (arrays <= MOST_ARRAYS))
-        & ((1 <= bodies) & (bodies <= MOST_BODIES))
-        & ((kind == DECLARED) | (bodies == 1))
-        & (zero == 0);
-    if !fits {
+    if !header_fits(byte(plan, 0), byte(plan, 1), byte(plan, 2), byte(plan, 3)) {
         return Verdict::Refused(2, 0);
+    }
+    Verdict::Accepted
+}
+
+// The answer where the entries before `at` pass, and the one at `at`, if there is one, does not.
+fn entries_verdict(number: u8, at: usize, count: usize) -> Verdict
+    requires { ⌜ at < 65536 ⌝ }
+    ensures stops { λ v. ⌜ (at < count → v ≡ Refused number at) ⌝ }
+    ensures passes { λ v. ⌜ (count ≤ at → v ≡ Accepted) ⌝ }
+{
+    if at < count {
+        return Verdict::Refused(number, at as u16);
     }
     Verdict::Accepted
 }
@@ -81,26 +104,44 @@ pub fn array_entries(plan: &[u8]) -> Arrays
 {
     let arrays = byte(plan, 1) as usize;
     let mut starts = [0u16; STARTS];
-    let mut cells: u32 = 0;
+    let mut cells: u16 = 0;
     let mut a: usize = 0;
     while a < arrays {
         let n = number_at(plan, 4 + 2 * a);
-        let total = cells + (n as u32);
-        if !((1 <= n) & (n <= MOST_LENGTH)) | (MOST_CELLS < total) {
-            return Arrays {
-                verdict: Verdict::Refused(4, a as u16),
-                cells: 0,
-                starts: starts,
-            };
+        if (n < 1) | (MOST_CELLS - cells < n) {
+            break;
         }
-        cells = total;
+        cells += n;
         a += 1;
-        starts[a] = cells as u16;
+        starts[a] = cells;
     }
     Arrays {
-        verdict: Verdict::Accepted,
-        cells: cells as u16,
+        verdict: entries_verdict(4, a, arrays),
+        cells: cells,
         starts: starts,
+    }
+}
+
+// The entry of body b, which follows so many records.
+fn body_entry(plan: &[u8], b: usize, records: u16) -> Entry
+    requires { ⌜ (b < body-count (now plan)) × (body-count (now plan) ≤ 32) × (bodies-at (now plan) ≤ length (now plan)) × (records ≡ first-record (now plan) b) × (records ≤ 1024) ⌝ }
+    ensures records { λ e. ⌜ e .records ≡ records-in (now (plan .entry)) b ⌝ }
+    ensures declarations { λ e. ⌜ e .declarations ≡ declarations-in (now (plan .entry)) b ⌝ }
+    ensures rows { λ e. ⌜ cond (e .fits) Accepted (Refused 5 b) ≡ first (body-rows (now (plan .entry)) b) ⌝ }
+    ensures low { λ e. ⌜ (e .fits ≡ true → records + e .records ≤ 1024) ⌝ }
+{
+    let at = entry_at(plan, b);
+    let n = number_at(plan, at);
+    let d = byte(plan, at + 2);
+    let zero = byte(plan, at + 3);
+    let fails = (zero != 0)
+        | (n < (d as u16))
+        | ((b == 0) & (d != 0))
+        | (MOST_RECORDS - records < n);
+    Entry {
+        fits: !fails,
+        records: n,
+        declarations: d,
     }
 }
 
@@ -115,30 +156,21 @@ pub fn body_entries(plan: &[u8]) -> Bodies
     let bodies = byte(plan, 2) as usize;
     let mut starts = [0u16; STARTS];
     let mut declarations = [0u8; NAMES];
-    let mut records: u32 = 0;
+    let mut records: u16 = 0;
     let mut b: usize = 0;
     while b < bodies {
-        let at = entry_at(plan, b);
-        let n = number_at(plan, at);
-        let d = byte(plan, at + 2);
-        let zero = byte(plan, at + 3);
-        let total = records + (n as u32);
-        if !(zero == 0) | (n < (d as u16)) | ((b == 0) & !(d == 0)) | (MOST_RECORDS < total) {
-            return Bodies {
-                verdict: Verdict::Refused(5, b as u16),
-                records: 0,
-                starts: starts,
-                declarations: declarations,
-            };
+        let e = body_entry(plan, b, records);
+        if !e.fits {
+            break;
         }
-        declarations[b] = d;
-        records = total;
+        declarations[b] = e.declarations;
+        records += e.records;
         b += 1;
-        starts[b] = records as u16;
+        starts[b] = records;
     }
     Bodies {
-        verdict: Verdict::Accepted,
-        records: records as u16,
+        verdict: entries_verdict(5, b, bodies),
+        records: records,
         starts: starts,
         declarations: declarations,
     }
@@ -149,14 +181,14 @@ pub fn tail(plan: &[u8], offset: usize, records: usize) -> Verdict
     requires { ⌜ (offset ≡ bodies-at (now plan)) × (offset ≤ 2048) × (records ≡ record-count (now plan)) × (records ≤ 1024) ⌝ }
     ensures { λ r. ⌜ r ≡ first (tail-rows (now (plan .entry))) ⌝ }
 {
-    if plan.len() != offset + 8 * records + 2 {
+    let n = offset + 8 * records;
+    if plan.len() != n + 2 {
         return Verdict::Refused(6, 0);
     }
-    let n = plan.len() - 2;
     let s = check_sums(&plan[..n]);
     let plain = byte(plan, n);
     let weighted = byte(plan, n + 1);
-    if !((plain == s.plain) & (weighted == s.weighted)) {
+    if (plain != s.plain) | (weighted != s.weighted) {
         return Verdict::Refused(7, 0);
     }
     Verdict::Accepted
@@ -180,6 +212,50 @@ pub fn nothing_found(v: Verdict) -> Opened
     }
 }
 
+// Numbers 4 to 7, by the answers of the entries.
+fn contents_verdict(plan: &[u8], offset: usize, a: Verdict, b: Verdict, records: u16) -> Verdict
+    requires { ⌜ (offset ≡ bodies-at (now plan)) × (offset < 2048) × (a ≡ first (each (array-count (now plan)) (array-rows (now plan)))) × (b ≡ first (each (body-count (now plan)) (body-rows (now plan)))) × (b ≡ Accepted → (records ≡ record-count (now plan)) × (records ≤ 1024)) ⌝ }
+    ensures { λ v. ⌜ v ≡ first (each (array-count (now (plan .entry))) (array-rows (now (plan .entry))) ++ (each (body-count (now (plan .entry))) (body-rows (now (plan .entry))) ++ tail-rows (now (plan .entry)))) ⌝ }
+{
+    let Verdict::Accepted = a else {
+        return a;
+    };
+    let Verdict::Accepted = b else {
+        return b;
+    };
+    tail(plan, offset, records as usize)
+}
+
+// Numbers 4 to 7, where number 3 does not hold, and what is found.
+fn contents_outline(plan: &[u8], offset: usize) -> Opened
+    requires { ⌜ (array-count (now plan) ≤ 32) × (body-count (now plan) ≤ 32) × (bodies-at (now plan) ≤ length (now plan)) × (offset ≡ bodies-at (now plan)) × (offset < 2048) ⌝ }
+    ensures { λ r. ⌜ r ≡ found-by (now (plan .entry)) (first (each (array-count (now (plan .entry))) (array-rows (now (plan .entry))) ++ (each (body-count (now (plan .entry))) (body-rows (now (plan .entry))) ++ tail-rows (now (plan .entry))))) ⌝ }
+{
+    let a = array_entries(plan);
+    let b = body_entries(plan);
+    let av = a.verdict;
+    let bv = b.verdict;
+    let v = contents_verdict(plan, offset, av, bv, b.records);
+    let Verdict::Accepted = v else {
+        return nothing_found(v);
+    };
+    let array_starts = a.starts;
+    let body_starts = b.starts;
+    let declarations = b.declarations;
+    Opened {
+        verdict: v,
+        kind: byte(plan, 0),
+        arrays: byte(plan, 1),
+        bodies: byte(plan, 2),
+        cells: a.cells,
+        records: b.records,
+        offset: offset as u16,
+        array_starts: array_starts,
+        body_starts: body_starts,
+        declarations: declarations,
+    }
+}
+
 // Numbers 1 to 7, and what is found in a file in which none of them holds.
 pub fn outline(plan: &[u8]) -> Opened
     ensures { λ r. ⌜ r ≡ found-by (now (plan .entry)) (first (front-rows (now (plan .entry)))) ⌝ }
@@ -188,38 +264,10 @@ pub fn outline(plan: &[u8]) -> Opened
     let Verdict::Accepted = h else {
         return nothing_found(h);
     };
-    let bodies = byte(plan, 2);
-    let offset = entry_at(plan, bodies as usize);
+    let bodies = byte(plan, 2) as usize;
+    let offset = entry_at(plan, bodies);
     if plan.len() < offset {
         return nothing_found(Verdict::Refused(3, 0));
     }
-    let a = array_entries(plan);
-    let av = a.verdict;
-    let Verdict::Accepted = av else {
-        return nothing_found(av);
-    };
-    let b = body_entries(plan);
-    let bv = b.verdict;
-    let Verdict::Accepted = bv else {
-        return nothing_found(bv);
-    };
-    let t = tail(plan, offset, b.records as usize);
-    let Verdict::Accepted = t else {
-        return nothing_found(t);
-    };
-    let array_starts = a.starts;
-    let body_starts = b.starts;
-    let declarations = b.declarations;
-    Opened {
-        verdict: Verdict::Accepted,
-        kind: byte(plan, 0),
-        arrays: byte(plan, 1),
-        bodies: bodies,
-        cells: a.cells,
-        records: b.records,
-        offset: offset as u16,
-        array_starts: array_starts,
-        body_starts: body_starts,
-        declarations: declarations,
-    }
+    contents_outline(plan, offset)
 }

@@ -15,7 +15,7 @@ use format::open;
 use judge::judge_opened;
 use model::Verdict;
 use reading::kinds::LARGEST;
-use reading::kinds::MOST_RECORDS;
+use reading::kinds::MOST_EXPANDED;
 use sizes::places;
 use writer::put_file;
 
@@ -90,7 +90,7 @@ pub fn expansion_length(plan: &[u8]) -> Length
         return no_length(answer);
     };
     let total = expansion_records(plan, o);
-    if MOST_RECORDS < total {
+    if MOST_EXPANDED < total {
         return no_length(Verdict::Refused(16, 0));
     }
     Length {

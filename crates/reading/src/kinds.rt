@@ -38,15 +38,15 @@ pub const NAMES: usize = 32;
 
 pub const STARTS: usize = 33;
 
-// "per array its length .., 1 to 4,096, together at most 4,096": the limits, and a set of cells.
-pub const MOST_LENGTH: u16 = 4096;
-
-pub const MOST_CELLS: u32 = 4096;
+// "per array its length .., 1 to 4,096, together at most 4,096": the limit of both, and a set of cells.
+pub const MOST_CELLS: u16 = 4096;
 
 pub const CELLS: usize = 4096;
 
 // "its records (.. together at most 1,024)": the limit, the same of an expansion, and a table with an entry for each record and one after the last.
-pub const MOST_RECORDS: u32 = 1024;
+pub const MOST_RECORDS: u16 = 1024;
+
+pub const MOST_EXPANDED: u32 = 1024;
 
 pub const LARGEST: usize = 1024;
 

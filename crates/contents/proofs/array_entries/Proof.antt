@@ -1,6 +1,7 @@
--- `format::contents::array_entries` answers number 4, and finds the first cell of each array. The invariant: no entry before array a stops,
+-- `contents::array_entries` answers number 4, and finds the first cell of each array. The invariant: no entry before array a stops,
 -- `cells` is the first cell of a, and `starts` has the first cells up to a.
-use mathlib.Core.Path.{_≡_, refl, sym, _∙_}
+use mathlib.Core.Path.{_≡_, sym, _∙_}
+use mathlib.Core.Logic.{⊎-elim}
 use mathlib.Core.Bool.{cond}
 use Prim.Native.Nat.{_-_, _≤_}
 use native.Mathlib.Omega.{arith}
@@ -11,9 +12,9 @@ use Rattle.model.specs.Sides.{first-of}
 use Rattle.model.specs.Rows.{first, each}
 use Rattle.reading.specs.Bytes.{array-count, table, length-at, arrays-of, entry-at}
 use Rattle.contents.specs.Contents.{array-rows}
-use Rattle.model.proofs.Rows.{refused, each-none, each-more, each-stop}
+use Rattle.model.proofs.Rows.{each-none, each-more}
 use Rattle.reading.proofs.Tables.{filled-first, filled-next, first-zero, all-cells}
-use Rattle.contents.proofs.Entries.{ArrayEntry, cells-more, array-stop, array-pass}
+use Rattle.contents.proofs.Entries.{Walked, walk-ends, walk-stops, ArrayEntry, cells-more, array-stop, array-pass}
 use borrow.Author.Needs.{needs}
 use Rattle.contents.proofs.array_entries.Statement.{statement}
 use Rattle.contents.proofs.array_entries.Tie as tie
@@ -33,7 +34,17 @@ abbrev μ-loop : tie.MeasureT-loop
 -- what was read at array a
 entry : (c : tie.After-number-at Inv-loop μ-loop) → ArrayEntry (c .before .before .before .before .before .args .plan .now) (c .before .before .loop .a) (c .number-at .result) (c .before .before .loop .cells)
 unfolding length-at
-entry c = record { one = omega (arith, c .before .before .before .byte .ensures); size = c .number-at .ensures; before = c .before .before .loop .inv .1 }
+entry c = record { one = omega (arith, c .before .before .before .byte .ensures); size = c .number-at .ensures; before = c .before .before .loop .inv .1; low = c .before .before .loop .inv .2 }
+
+-- where the walk ends
+walked : (c : tie.After-entries-verdict Inv-loop μ-loop) → Walked (array-rows (c .before .before .before .before .before .args .plan .now)) (c .before .before .loop .a) (c .before .before .before .byte .result) (c .entries-verdict .result)
+walked c =
+    let l = c .before .before in
+    let v = c .entries-verdict .ensures in
+    ⊎-elim
+    (λ t. walk-ends _ _ _ _ (l .loop .inv .3) (l .loop .inv .0) (t .left) (v .1))
+    (λ t. walk-stops _ _ _ _ (l .loop .inv .3) 4 (t .0 .taken) (v .0) (array-stop _ _ _ _ (entry record { before = record { before = l; loop-test = t .0 }; number-at = t .1 }) (t .2 .taken)))
+    (c .before .loop-test .came)
 
 byte-requires : tie.Need-byte-requires Inv-loop μ-loop
 byte-requires c κs = search needs
@@ -57,25 +68,14 @@ number-at-requires : tie.Need-number-at-requires Inv-loop μ-loop
 unfolding entry-at
 number-at-requires c κs = omega arith
 
-cast-total : tie.Need-cast-total Inv-loop μ-loop
-cast-total c = search needs
+sub-if1 : tie.Need-sub-if1 Inv-loop μ-loop
+sub-if1 c = search needs
 
-add-total : tie.Need-add-total Inv-loop μ-loop
-add-total c = search needs
-
-cast-t18 : tie.Need-cast-t18 Inv-loop μ-loop
-cast-t18 c = search needs
-
-returns : tie.Need-returns Inv-loop μ-loop
-returns c =
-    let e = entry (c .before) in
-    (each-stop _ _ _ _ (refused refl) (c .before .before .before .loop .inv .3) (array-stop _ _ _ _ e (c .if1 .taken)) (e .one), ((λ a. absurd (refused refl a)), (λ a. absurd (refused refl a))))
+add-cells : tie.Need-add-cells Inv-loop μ-loop
+add-cells c = omega (arith, array-pass _ _ _ _ (entry (c .before)) (c .if1 .left) .1)
 
 add-a : tie.Need-add-a Inv-loop μ-loop
 add-a c = search needs
-
-cast-starts : tie.Need-cast-starts Inv-loop μ-loop
-cast-starts c = omega (arith, array-pass _ _ _ _ (entry (c .before)) (c .if1 .left) .1)
 
 mul-starts : tie.Need-mul-starts Inv-loop μ-loop
 mul-starts c = search needs
@@ -94,15 +94,15 @@ loop-again c =
     let m = cells-more _ _ _ _ e in
     (omega arith, m, p .1, each-more _ _ (l .inv .3) (p .0), search needs, rw (l .inv .5) (filled-next (first-of (arrays-of (c .before .before .before .before .before .before .args .plan .now))) 33 (l .a) _ (omega arith) m))
 
-cast-t25 : tie.Need-cast-t25 Inv-loop μ-loop
-cast-t25 c = search needs
+entries-verdict-requires : tie.Need-entries-verdict-requires Inv-loop μ-loop
+entries-verdict-requires c κs = omega arith
 
-returns-2 : tie.Need-returns-2 Inv-loop μ-loop
-returns-2 c =
-    let l = c .before .loop in
-    let f = c .before .before .before .before .args .plan .now in
-    let n : l .a ≡ array-count f = omega (arith, c .before .before .byte .ensures) in
-    (rw n at (l .inv .3), ((λ e. l .inv .1 ∙ rw n (sym (all-cells f))), (λ e. l .inv .5 ∙ rw n)))
+returns : tie.Need-returns Inv-loop μ-loop
+returns c =
+    let l = c .before .before .loop in
+    let f = c .before .before .before .before .before .args .plan .now in
+    let w = rw (c .before .before .before .byte .ensures) at (walked c) in
+    (w .answer, ((λ e. l .inv .1 ∙ rw (w .all e) (sym (all-cells f))), (λ e. l .inv .5 ∙ rw (w .all e))))
 
 pub array-entries-spec : {M : Type 1} → statement M
 array-entries-spec =
@@ -116,15 +116,12 @@ array-entries-spec =
     mul-number-at
     add-number-at
     number-at-requires
-    cast-total
-    add-total
-    cast-t18
-    returns
+    sub-if1
+    add-cells
     add-a
-    cast-starts
     mul-starts
     array-write-starts
     loop-less
     loop-again
-    cast-t25
-    returns-2)
+    entries-verdict-requires
+    returns)

@@ -1,19 +1,21 @@
--- `format::contents::body_entries` answers number 5, and finds the first record and the declarations of each body. The invariant: no entry before
+-- `contents::body_entries` answers number 5, and finds the first record and the declarations of each body. The invariant: no entry before
 -- body b stops, `records` is the first record of b, `starts` has the first records up to b, and `declarations` those of the bodies before b.
 use mathlib.Core.Path.{_≡_, refl, sym, ap, _∙_}
+use mathlib.Core.Logic.{⊎-elim}
 use mathlib.Core.Bool.{cond}
-use Prim.Native.Nat.{ℕ, _+_, _-_, _≤_}
+use Prim.Native.Nat.{_+_, _-_, _≤_, _<_}
 use native.Mathlib.Omega.{arith}
 use lib.Dec.{ltb, leb}
 use lib.ListN.{length}
+use borrow.Author.Tests.{not-false}
 use Rattle.model.specs.declared.Verdict.the-variants.{Accepted}
 use Rattle.model.specs.Sides.{first-of}
 use Rattle.model.specs.Rows.{first, each}
-use Rattle.reading.specs.Bytes.{byte-at, u16-at, body-count, table, entry-at, declarations-in, sizes-of, first-record}
+use Rattle.reading.specs.Bytes.{body-count, table, declarations-in, sizes-of, first-record}
 use Rattle.contents.specs.Contents.{body-rows}
-use Rattle.model.proofs.Rows.{refused, each-none, each-more, each-stop}
+use Rattle.model.proofs.Rows.{each-none, each-more}
 use Rattle.reading.proofs.Tables.{filled-first, filled-next, stored-next, first-zero}
-use Rattle.contents.proofs.Entries.{BodyEntry, records-more, body-stop, body-pass}
+use Rattle.contents.proofs.Entries.{Walked, walk-ends, walk-stops, body-stops, body-passes, records-more}
 use borrow.Author.Needs.{needs}
 use Rattle.contents.proofs.body_entries.Statement.{statement}
 use Rattle.contents.proofs.body_entries.Tie as tie
@@ -32,18 +34,23 @@ Inv-loop plan bodies starts₀ declarations₀ records₀ b₀ starts declaratio
 abbrev μ-loop : tie.MeasureT-loop
 μ-loop plan bodies starts₀ declarations₀ records₀ b₀ starts declarations records b = bodies - b
 
--- what was read at body b
-entry : (c : tie.After-byte3 Inv-loop μ-loop) → BodyEntry (c .before .before .before .before .before .before .before .before .args .plan .now) (c .before .before .before .before .before .loop .b) (c .before .before .number-at .result) (c .before .byte2 .result) (c .byte3 .result) (c .before .before .before .before .before .loop .records)
-entry c =
-    let f = c .before .before .before .before .before .before .before .before .args .plan .now in
-    let at = c .before .before .before .entry-at .ensures .0 in
-    record {
-      one = omega (arith, c .before .before .before .before .before .before .byte .ensures);
-      size = c .before .before .number-at .ensures ∙ ap (u16-at f) at;
-      declared = c .before .byte2 .ensures ∙ ap (λ (i : ℕ). byte-at f (i + 2)) at;
-      ends = c .byte3 .ensures ∙ ap (λ (i : ℕ). byte-at f (i + 3)) at;
-      before = c .before .before .before .before .before .loop .inv .1;
-    }
+-- body b
+below : (c : tie.In-loop Inv-loop μ-loop) → c .before .loop .b < body-count (c .before .before .before .before .args .plan .now)
+below c = omega (arith, c .before .before .byte .ensures)
+
+-- its records, where its entry passes
+fitted : (c : tie.After-struct-known2 Inv-loop μ-loop) → c .before .before .before .before .before .loop .records + c .before .before .before .body-entry .result .records ≤ 1024
+fitted c = c .before .before .before .body-entry .ensures .1 .1 .1 (not-false _ (c .before .if1 .left))
+
+-- where the walk ends
+walked : (c : tie.After-entries-verdict Inv-loop μ-loop) → Walked (body-rows (c .before .before .before .before .before .args .plan .now)) (c .before .before .loop .b) (c .before .before .before .byte .result) (c .entries-verdict .result)
+walked c =
+    let l = c .before .before in
+    let v = c .entries-verdict .ensures in
+    ⊎-elim
+    (λ t. walk-ends _ _ _ _ (l .loop .inv .3) (l .loop .inv .0) (t .left) (v .1))
+    (λ t. walk-stops _ _ _ _ (l .loop .inv .3) 5 (t .0 .taken) (v .0) (body-stops _ _ (t .1 .result .fits) (t .1 .ensures .1 .1 .0) (t .3 .taken)))
+    (c .before .loop-test .came)
 
 byte-requires : tie.Need-byte-requires Inv-loop μ-loop
 byte-requires c κs = search needs
@@ -57,50 +64,20 @@ loop-holds c =
     let l = sizes-of (c .before .before .args .plan .now) in
     (search needs, sym (first-zero l), search needs, each-none _, search needs, search needs, filled-first (first-of l) (first-zero l), refl)
 
-entry-at-requires : tie.Need-entry-at-requires Inv-loop μ-loop
-entry-at-requires c κs = search needs
-
-number-at-requires : tie.Need-number-at-requires Inv-loop μ-loop
-unfolding entry-at
-number-at-requires c κs = omega arith
-
-add-byte : tie.Need-add-byte Inv-loop μ-loop
-add-byte c = search needs
-
-byte-requires-2 : tie.Need-byte-requires-2 Inv-loop μ-loop
-byte-requires-2 c κs = search needs
-
-add-byte-2 : tie.Need-add-byte-2 Inv-loop μ-loop
-add-byte-2 c = search needs
-
-byte-requires-3 : tie.Need-byte-requires-3 Inv-loop μ-loop
-byte-requires-3 c κs = search needs
-
-cast-total : tie.Need-cast-total Inv-loop μ-loop
-cast-total c = search needs
-
-add-total : tie.Need-add-total Inv-loop μ-loop
-add-total c = search needs
-
-cast-if1 : tie.Need-cast-if1 Inv-loop μ-loop
-cast-if1 c = search needs
-
-cast-t27 : tie.Need-cast-t27 Inv-loop μ-loop
-cast-t27 c = search needs
-
-returns : tie.Need-returns Inv-loop μ-loop
-returns c =
-    let e = entry (c .before) in
-    (each-stop _ _ _ _ (refused refl) (c .before .before .before .before .before .before .loop .inv .3) (body-stop _ _ _ _ _ _ e (c .if1 .taken)) (e .one), ((λ a. absurd (refused refl a)), ((λ a. absurd (refused refl a)), (λ a. absurd (refused refl a)))))
+body-entry-requires : tie.Need-body-entry-requires Inv-loop μ-loop
+body-entry-requires c κs =
+    let pre = c .before .before .before .before .pre in
+    let l = c .before .loop .inv in
+    (below c, pre .0, pre .1, l .1, l .2)
 
 array-write-declarations : tie.Need-array-write-declarations Inv-loop μ-loop
 array-write-declarations c = search needs
 
+add-records : tie.Need-add-records Inv-loop μ-loop
+add-records c = omega (arith, fitted c)
+
 add-b : tie.Need-add-b Inv-loop μ-loop
 add-b c = search needs
-
-cast-starts : tie.Need-cast-starts Inv-loop μ-loop
-cast-starts c = omega (arith, body-pass _ _ _ _ _ _ (entry (c .before)) (c .if1 .left) .1)
 
 mul-starts : tie.Need-mul-starts Inv-loop μ-loop
 mul-starts c = search needs
@@ -113,30 +90,29 @@ loop-less c = search needs
 
 loop-again : tie.Need-loop-again Inv-loop μ-loop
 loop-again c =
-    let l = c .before .before .before .before .before .before .loop in
-    let f = c .before .before .before .before .before .before .before .before .before .args .plan .now in
-    let e = entry (c .before) in
-    let p = body-pass _ _ _ _ _ _ e (c .if1 .left) in
-    let m = records-more _ _ _ _ _ _ e in (
+    let k = c .before .before .before in
+    let l = k .before .before .loop in
+    let f = k .before .before .before .before .before .args .plan .now in
+    let e = k .body-entry .ensures in
+    let m = records-more f (l .b) _ _ (below (k .before)) (e .0) (l .inv .1) in (
       omega arith,
       m,
-      p .1,
-      each-more _ _ (l .inv .3) (p .0),
+      fitted c,
+      each-more _ _ (l .inv .3) (body-passes _ _ (k .body-entry .result .fits) (e .1 .1 .0) (c .before .if1 .left)),
       search needs,
       search needs,
       rw (l .inv .6) (filled-next (first-record f) 33 (l .b) _ (omega arith) m),
-      rw (l .inv .7) (stored-next (declarations-in f) 32 (l .b) _ (omega arith) (e .declared)),
+      rw (l .inv .7) (stored-next (declarations-in f) 32 (l .b) _ (omega arith) (e .1 .0)),
     )
 
-cast-t36 : tie.Need-cast-t36 Inv-loop μ-loop
-cast-t36 c = search needs
+entries-verdict-requires : tie.Need-entries-verdict-requires Inv-loop μ-loop
+entries-verdict-requires c κs = omega arith
 
-returns-2 : tie.Need-returns-2 Inv-loop μ-loop
-returns-2 c =
-    let l = c .before .loop in
-    let f = c .before .before .before .before .args .plan .now in
-    let n : l .b ≡ body-count f = omega (arith, c .before .before .byte .ensures) in
-    (rw n at (l .inv .3), ((λ e. (rw n at (l .inv .1), l .inv .2)), ((λ e. l .inv .6 ∙ rw n), (λ e. l .inv .7 ∙ rw n))))
+returns : tie.Need-returns Inv-loop μ-loop
+returns c =
+    let l = c .before .before .loop in
+    let w = rw (c .before .before .before .byte .ensures) at (walked c) in
+    (w .answer, ((λ e. (l .inv .1 ∙ ap (first-record (c .before .before .before .before .before .args .plan .now)) (w .all e), l .inv .2)), ((λ e. l .inv .6 ∙ rw (w .all e)), (λ e. l .inv .7 ∙ rw (w .all e)))))
 
 pub body-entries-spec : {M : Type 1} → statement M
 body-entries-spec =
@@ -147,23 +123,13 @@ body-entries-spec =
     byte-requires
     cast-bodies
     loop-holds
-    entry-at-requires
-    number-at-requires
-    add-byte
-    byte-requires-2
-    add-byte-2
-    byte-requires-3
-    cast-total
-    add-total
-    cast-if1
-    cast-t27
-    returns
+    body-entry-requires
     array-write-declarations
+    add-records
     add-b
-    cast-starts
     mul-starts
     array-write-starts
     loop-less
     loop-again
-    cast-t36
-    returns-2)
+    entries-verdict-requires
+    returns)

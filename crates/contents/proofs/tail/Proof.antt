@@ -1,4 +1,4 @@
--- `format::contents::tail` answers numbers 6 and 7.
+-- `contents::tail` answers numbers 6 and 7.
 use native.Mathlib.Omega.{arith}
 use lib.ListN.{length-take}
 use Rattle.contents.proofs.Entries.{length-stop, check-stop, tail-pass}
@@ -6,20 +6,17 @@ use borrow.Author.Needs.{needs}
 use Rattle.contents.proofs.tail.Statement.{statement}
 use Rattle.contents.proofs.tail.Tie as tie
 
-mul-if1 : tie.Need-mul-if1
-mul-if1 c = search needs
+mul-n : tie.Need-mul-n
+mul-n c = search needs
+
+add-n : tie.Need-add-n
+add-n c = search needs
 
 add-if1 : tie.Need-add-if1
 add-if1 c = search needs
 
-add-if1-2 : tie.Need-add-if1-2
-add-if1-2 c = search needs
-
 returns : tie.Need-returns
 returns c = length-stop _ _ _ (c .before .before .pre .0) (c .before .before .pre .2) (c .if1 .taken)
-
-sub-n : tie.Need-sub-n
-sub-n c = search needs
 
 slice-aggregate-check-sums : tie.Need-slice-aggregate-check-sums
 slice-aggregate-check-sums c = simp length-take (omega arith)
@@ -46,11 +43,10 @@ pub tail-spec : {M : Type 1} → statement M
 tail-spec =
     tie.close
     (tie.spec
-    mul-if1
+    mul-n
+    add-n
     add-if1
-    add-if1-2
     returns
-    sub-n
     slice-aggregate-check-sums
     check-sums-requires
     byte-requires
