@@ -18,7 +18,7 @@ use Rattle.model.specs.Expanding.{expand}
 use Rattle.model.proofs.Booleans.{and-out, and-in}
 use Rattle.reading.specs.declared.Fields.{Fields}
 use Rattle.reading.specs.Bytes.{kind-of, array-count, body-count, table, length-at, arrays-of, records-in, declarations-in, first-record, fields-at, between}
-use Rattle.records.specs.Records.{fields-fit, deepest}
+use Rattle.rules.specs.Rules.{fields-fit, deepest}
 use Rattle.format.specs.Opening.{opening}
 use Rattle.format.specs.Plans.{action-of, declaration-of, pass-at, declared-plan-of}
 use Rattle.files.specs.Files.{side-number, action-fields}
@@ -26,8 +26,8 @@ use Rattle.files.specs.Bounds.{all, arrays-fit, cells-fit, action-fits, block-f
 use Rattle.format.specs.Inner.Walks.{Good, block-between, body0-between}
 use Rattle.reading.proofs.Ranges.{in-range}
 use Rattle.reading.proofs.Tables.{length-table, arrays-counted, array-length, next-record}
-use Rattle.records.proofs.Fields.{fit-declaration}
-use Rattle.records.proofs.Records.{Tests}
+use Rattle.rules.proofs.Fields.{fit-declaration}
+use Rattle.rules.proofs.Rules.{Tests}
 use Rattle.format.proofs.Walking.{Facts, opened-facts, good-parts}
 use Rattle.format.proofs.Trees.{block-none, block-branch, block-loop, block-act, body0-none, body0-branch, body0-loop, body0-call, walk-of, body0-good, body0-body, pass-kind, pass-good, pass-declaration, pass-body}
 use Rattle.files.specs.Expansions.{expansion-of}

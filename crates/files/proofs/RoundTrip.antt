@@ -13,7 +13,8 @@ use Rattle.model.specs.Blocks.{size, Plan}
 use Rattle.model.specs.Judging.{DeclaredPlan}
 use Rattle.model.proofs.Booleans.{and-out, and-in}
 use Rattle.reading.specs.Bytes.{kind-of, body-count, table, records-in, first-record, record-count, fields-at}
-use Rattle.records.specs.Records.{allowed, deepest, records-rows}
+use Rattle.rules.specs.Rules.{allowed, deepest}
+use Rattle.records.specs.Records.{records-rows}
 use Rattle.format.specs.Opening.{opening}
 use Rattle.format.specs.Plans.{pass-at, plan-of, declared-plan-of}
 use Rattle.files.specs.Files.{block-fields, size0, body0-fields, Body, plain-file, pass-body, declared-file}

@@ -13,11 +13,11 @@ use Rattle.model.specs.Effects.{Action, read, write, copy, need, mark}
 use Rattle.model.proofs.Booleans.{and-out}
 use Rattle.reading.specs.declared.Fields.{Fields}
 use Rattle.reading.specs.Bytes.{kind-of, array-count, body-count, length-at, record-count, fields-at, first-arm, second-arm}
-use Rattle.records.specs.Records.{fields-fit, allowed}
+use Rattle.rules.specs.Rules.{fields-fit, allowed}
 use Rattle.format.specs.Plans.{side-of, action-of}
 use Rattle.format.specs.Inner.Walks.{Plain, Walkable}
 use Rattle.reading.proofs.Ranges.{of-range}
-use Rattle.records.proofs.Fields.{Sizes, fit-cells, fit-array}
+use Rattle.rules.proofs.Fields.{Sizes, fit-cells, fit-array}
 use Rattle.format.proofs.Trees.{no-arms}
 use Rattle.format.proofs.Walking.{good-parts, opened-facts, Steps, steps}
 

@@ -12,7 +12,7 @@ use Rattle.model.specs.Blocks.{Block}
 use Rattle.model.specs.Judging.{Body0}
 use Rattle.reading.specs.declared.Fields.{Fields}
 use Rattle.reading.specs.Bytes.{kind-of, body-count, records-in, declarations-in, sizes-of, first-record, record-count, fields-at, first-arm, second-arm}
-use Rattle.records.specs.Records.{allowed}
+use Rattle.rules.specs.Rules.{allowed}
 use Rattle.format.specs.Plans.{action-of, block-of, body0-of, pass-at, plan-of, declared-plan-of}
 use Rattle.format.specs.Inner.Walks.{Good, Walkable, block-between, body0-between}
 use Rattle.reading.proofs.Ranges.{of-range, out-of-range}

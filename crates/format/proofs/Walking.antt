@@ -10,13 +10,14 @@ use Rattle.reading.specs.declared.Fields.{Fields}
 use Rattle.contents.specs.declared.Opened.{Opened}
 use Rattle.model.specs.Rows.{first}
 use Rattle.reading.specs.Bytes.{body-count, records-in, first-record, fields-at, first-arm, second-arm}
-use Rattle.records.specs.Records.{fields-fit, block-rows, record-rows, records-rows}
+use Rattle.rules.specs.Rules.{fields-fit, record-rows}
+use Rattle.records.specs.Records.{block-rows, records-rows}
 use Rattle.format.specs.Opening.{opening, opened}
 use Rattle.contents.specs.Found.{found, found-by}
 use Rattle.format.specs.Inner.Walks.{Good, Walkable}
 use Rattle.model.proofs.Rows.{passed, each-passed}
 use Rattle.reading.proofs.Tables.{next-record}
-use Rattle.records.proofs.Records.{Tests, tests-of}
+use Rattle.rules.proofs.Rules.{Tests, tests-of}
 use Rattle.format.proofs.Opening.{open-parts}
 use Rattle.contents.proofs.Places.{answer}
 use Rattle.contents.proofs.Bounds.{Bounds, bounds-of}

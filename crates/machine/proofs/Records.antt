@@ -15,7 +15,7 @@ use Rattle.model.proofs.Numbering.{array-ends}
 use Rattle.model.proofs.Runs.{event}
 use Rattle.reading.specs.declared.Fields.{Fields}
 use Rattle.reading.specs.Bytes.{array-count, length-at, arrays-of}
-use Rattle.records.specs.Records.{fields-fit}
+use Rattle.rules.specs.Rules.{fields-fit}
 use Rattle.format.specs.Plans.{action-of}
 use Rattle.format.specs.Inner.Walks.{Plain}
 use Rattle.reading.proofs.Tables.{arrays-counted, array-length, next-cell}

@@ -22,7 +22,7 @@ use Rattle.model.specs.Runs.{Config, Ending, finished, stopped, out-of-choices,
 use Rattle.model.proofs.Runs.{config, event}
 use Rattle.reading.specs.declared.Fields.{Fields}
 use Rattle.reading.specs.Bytes.{kind-of, array-count, arrays-of, record-count, fields-at, between, first-arm, second-arm}
-use Rattle.records.specs.Records.{fields-fit, deepest}
+use Rattle.rules.specs.Rules.{fields-fit, deepest}
 use Rattle.format.specs.Plans.{action-of, plan-of}
 use Rattle.format.specs.Inner.Walks.{Plain, Starts, Walkable, block-between}
 use Rattle.reading.proofs.Ranges.{in-range}

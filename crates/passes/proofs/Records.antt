@@ -13,12 +13,12 @@ use Rattle.model.proofs.Booleans.{and-out}
 use Rattle.reading.specs.declared.Fields.{Fields}
 use Rattle.reading.specs.Bytes.{kind-of, array-count, body-count, length-at, declarations-in, sizes-of, first-record, fields-at, first-arm, second-arm}
 use Rattle.reading.specs.Inner.Places.{Inside}
-use Rattle.records.specs.Records.{fields-fit, allowed}
+use Rattle.rules.specs.Rules.{fields-fit, allowed}
 use Rattle.format.specs.Inner.Walks.{Good, Walkable, block-between}
 use Rattle.format.specs.Plans.{pass-at}
 use Rattle.reading.proofs.Ranges.{of-range}
 use Rattle.reading.proofs.Tables.{first-rises, next-record}
-use Rattle.records.proofs.Fields.{Sizes, fit-declaration, fit-branch, fit-loop}
+use Rattle.rules.proofs.Fields.{Sizes, fit-declaration, fit-branch, fit-loop}
 use Rattle.format.proofs.Walking.{Facts, opened-facts, good-parts}
 use Rattle.format.proofs.Acts.{cells-fit, array-fits}
 use Rattle.format.proofs.Trees.{pass-declaration, pass-walk, pass-body}

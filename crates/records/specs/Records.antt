@@ -1,54 +1,11 @@
--- Numbers 8 to 10 (document 01, 'Numbers by the place where each is checked'): the rows of each record, in the table's order.
+-- Numbers 8 to 10 (document 01, 'Numbers by the place where each is checked'): the rows of all records, in their order.
 use Prim.Native.Nat.{ℕ, zero, suc, _+_}
-use mathlib.Core.Bool.{Bool, true, cond, not, _&&_, _||_}
-use mathlib.Core.List.{List, [], _∷_, _++_}
-use lib.Dec.{ltb, leb, eqb}
-use Rattle.model.specs.Rows.{Row, row}
-use Rattle.reading.specs.declared.Fields.{Fields}
-use Rattle.reading.specs.Bytes.{kind-of, array-count, body-count, length-at, records-in, declarations-in, first-record, fields-at, between, first-arm, second-arm}
-
--- EACH RECORD. "8 a field against its rule"; "Unused fields are zero."
-unfoldable pub fields-fit : List ℕ → Fields → Bool
-fields-fit f x =
-    let on-side = ltb (x .side) 2 in
-    let on-array = ltb (x .array) (array-count f) in
-    let no-array = eqb (x .side) 0 && eqb (x .array) 0 in
-    let last-zero = eqb (x .zero) 0 in
-    -- "1 read, 2 write, 3 copy: cells P to Q − 1 of the array, P < Q ≤ its length."
-    cond (between 1 3 (x .kind)) (on-side && on-array && last-zero && ltb (x .p) (x .q) && leb (x .q) (length-at f (x .array)))
-    -- "4 need, 5 mark: side and array." "16 R, 17 W, 18 RW: side and array."
-    (cond (between 4 5 (x .kind) || between 16 18 (x .kind)) (on-side && on-array && last-zero && eqb (x .p) 0 && eqb (x .q) 0)
-    -- "6 branch: P records of the first arm, then Q of the second."
-    (cond (eqb (x .kind) 6) (no-array && last-zero)
-    -- "7 loop: P records."
-    (cond (eqb (x .kind) 7) (no-array && last-zero && eqb (x .q) 0)
-    -- "8 call: P is a body, 1 to the last."
-    (cond (eqb (x .kind) 8) (no-array && last-zero && eqb (x .q) 0 && leb 1 (x .p) && ltb (x .p) (body-count f))
-    -- "kinds 0, 9 to 15 and 19 to 255 are unknown: number 9, no field tested."
-    true))))
-
--- "9 kind not allowed there", of record r in body b: "A plain plan holds kinds 1 to 7", "Body 0 of a declared plan .. holds kinds 6, 7, 8",
--- a pass "declarations first, as many as the contents say, then kinds 1 to 7"
-unfoldable pub allowed : List ℕ → ℕ → ℕ → Fields → Bool
-allowed f b r x =
-    cond (eqb (kind-of f) 2) (between 1 7 (x .kind))
-    (cond (eqb b 0) (between 6 8 (x .kind))
-    (cond (ltb r (first-record f b + declarations-in f b)) (between 16 18 (x .kind))
-    (between 1 7 (x .kind))))
-
--- "In a plain plan each stands inside at most 15 others, in a body of a declared plan inside at most 7."
-unfoldable pub deepest : List ℕ → ℕ
-deepest f = cond (eqb (kind-of f) 2) 15 7
-
--- the rows of record r of body b, which stands inside `depth` branches and loops, in an arm or body that ends before record `end`:
--- 8, 9, then "10 arm past the end of what holds it, or nested too deep"
-unfoldable pub record-rows : List ℕ → ℕ → ℕ → ℕ → ℕ → List Row
-record-rows f b depth end r =
-    let x = fields-at f r in
-    row (not (fields-fit f x)) 8 r
-    ∷ row (not (allowed f b r x)) 9 r
-    ∷ row (ltb end (r + 1 + first-arm x + second-arm x) || (between 6 7 (x .kind) && ltb (deepest f) depth)) 10 r
-    ∷ []
+use mathlib.Core.Bool.{cond}
+use mathlib.Core.List.{List, [], _++_}
+use lib.Dec.{ltb}
+use Rattle.model.specs.Rows.{Row}
+use Rattle.reading.specs.Bytes.{records-in, first-record, fields-at, first-arm, second-arm}
+use Rattle.rules.specs.Rules.{record-rows}
 
 -- the records r up to `end`, "a record gets all its tests before the next one": a record, its first arm, its second arm, the rest
 -- (`fuel` is at least the number of records)

@@ -9,7 +9,7 @@ use lib.Dec.{ltb, leb, eqb}
 use borrow.Author.Tests.{eq-eqb, ne-eqb, le-ltb}
 use Rattle.reading.specs.declared.Fields.{Fields}
 use Rattle.reading.specs.Bytes.{array-count, body-count, length-at, between}
-use Rattle.records.specs.Records.{fields-fit}
+use Rattle.rules.specs.Rules.{fields-fit}
 use Rattle.reading.proofs.Ranges.{in-range, out-of-range}
 
 -- the numbers that the rule asks for: arrays, bodies, the length of the record's array

@@ -16,7 +16,7 @@ use Rattle.reading.specs.Inner.Places.{Inside}
 use Rattle.contents.specs.declared.Opened.{Opened}
 use Rattle.contents.specs.Found.{found}
 use Rattle.contents.proofs.Found.{body-start}
-use Rattle.records.specs.Records.{allowed}
+use Rattle.rules.specs.Rules.{allowed}
 use Rattle.reading.proofs.Ranges.{of-range}
 use Rattle.reading.proofs.Tables.{first-zero, first-rises, next-record}
 use Rattle.format.proofs.Walking.{Facts, opened-facts}

@@ -10,12 +10,12 @@ use borrow.Author.Tests.{ltb-true, leb-true, eqb-true, eq-eqb, ne-eqb}
 use Rattle.model.proofs.Booleans.{and-out}
 use Rattle.reading.specs.declared.Fields.{Fields}
 use Rattle.reading.specs.Bytes.{array-count, body-count, length-at, first-arm, second-arm}
-use Rattle.records.specs.Records.{fields-fit}
+use Rattle.rules.specs.Rules.{fields-fit}
 use Rattle.format.specs.Plans.{side-of, action-of}
 use Rattle.files.specs.Files.{side-number, fields, action-fields}
 use Rattle.reading.proofs.Ranges.{in-range}
 use Rattle.files.proofs.Given.{side-again}
-use Rattle.records.proofs.Fields.{Sizes, fit-cells, fit-array, fit-declaration, fit-branch, fit-loop, fit-call}
+use Rattle.rules.proofs.Fields.{Sizes, fit-cells, fit-array, fit-declaration, fit-branch, fit-loop, fit-call}
 
 -- "Unused fields are zero"
 pub fields-are : (x : Fields) (kind side array p q : ℕ) → x .kind ≡ kind → x .side ≡ side → x .array ≡ array → x .zero ≡ 0 → x .p ≡ p → x .q ≡ q → x ≡ fields kind side array p q

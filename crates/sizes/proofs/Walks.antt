@@ -9,7 +9,7 @@ use lib.ListN.{length, length-append}
 use Rattle.model.specs.Blocks.{Block, size}
 use Rattle.reading.specs.declared.Fields.{Fields}
 use Rattle.reading.specs.Bytes.{fields-at, first-arm, second-arm}
-use Rattle.records.specs.Records.{fields-fit, allowed}
+use Rattle.rules.specs.Rules.{fields-fit, allowed}
 use Rattle.files.specs.Files.{fields, block-fields}
 use Rattle.format.specs.Inner.Walks.{Good}
 use Rattle.format.proofs.Walking.{good-parts}

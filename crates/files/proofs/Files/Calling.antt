@@ -12,7 +12,7 @@ use Rattle.model.specs.Judging.{Body0}
 use Rattle.model.proofs.Booleans.{and-out}
 use Rattle.reading.specs.declared.Fields.{Fields}
 use Rattle.reading.specs.Bytes.{body-count, fields-at, between, first-arm, second-arm}
-use Rattle.records.specs.Records.{fields-fit, allowed, deepest}
+use Rattle.rules.specs.Rules.{fields-fit, allowed, deepest}
 use Rattle.format.specs.Plans.{body0-of}
 use Rattle.files.specs.Files.{fields, size0, body0-fields}
 use Rattle.files.specs.Bounds.{body0-fits}

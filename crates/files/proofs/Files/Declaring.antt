@@ -14,7 +14,8 @@ use Rattle.model.specs.Judging.{Mode, R, W, RW, Declaration, Pass}
 use Rattle.model.proofs.Booleans.{and-out}
 use Rattle.reading.specs.declared.Fields.{Fields}
 use Rattle.reading.specs.Bytes.{kind-of, array-count, table, records-in, declarations-in, first-record, fields-at, between, first-arm, second-arm}
-use Rattle.records.specs.Records.{fields-fit, allowed, deepest, records-rows}
+use Rattle.rules.specs.Rules.{fields-fit, allowed, deepest}
+use Rattle.records.specs.Records.{records-rows}
 use Rattle.format.specs.Plans.{declaration-of, pass-at}
 use Rattle.files.specs.Files.{side-number, fields, mode-kind, declaration-fields, block-fields, pass-body}
 use Rattle.files.specs.Bounds.{all, block-fits, pass-fits, pass-size, passes-size, numbered-passes}

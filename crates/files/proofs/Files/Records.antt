@@ -15,7 +15,8 @@ use Rattle.model.specs.Blocks.{Block, size}
 use Rattle.model.proofs.Booleans.{and-out}
 use Rattle.reading.specs.declared.Fields.{Fields}
 use Rattle.reading.specs.Bytes.{array-count, length-at, fields-at, between, first-arm, second-arm}
-use Rattle.records.specs.Records.{fields-fit, allowed, deepest, record-rows, block-rows}
+use Rattle.rules.specs.Rules.{fields-fit, allowed, deepest, record-rows}
+use Rattle.records.specs.Records.{block-rows}
 use Rattle.files.specs.Files.{side-number, fields, action-fields, block-fields}
 use Rattle.files.specs.Bounds.{cells-fit, action-fits, block-fits}
 use Rattle.files.proofs.Files.Holding.{more, Holds, front-part, back-at}

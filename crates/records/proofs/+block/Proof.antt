@@ -1,4 +1,4 @@
--- `format::records::block` answers numbers 8 to 10 of the records of a block. The loop's invariant: whatever the records left answer is the block's answer.
+-- `records::block` answers numbers 8 to 10 of the records of a block. The loop's invariant: whatever the records left answer is the block's answer.
 -- The measure is the number of records.
 use mathlib.Core.Path.{sym, ap, _∙_}
 use native.Mathlib.Omega.{arith}
@@ -17,7 +17,7 @@ use Rattle.records.proofs.+block.Lts-block as block-lts
 use Rattle.reading.proofs.record_at.Reads as record-at-reads
 use Rattle.reading.proofs.first_arm.Reads as first-arm-reads
 use Rattle.reading.proofs.second_arm.Reads as second-arm-reads
-use Rattle.records.proofs.record_tests.Reads as record-tests-reads
+use Rattle.rules.proofs.record_tests.Reads as record-tests-reads
 use Rattle.records.proofs.+block.{statement}
 use Rattle.records.proofs.+block.Tie.{close}
 

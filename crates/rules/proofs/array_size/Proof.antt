@@ -1,9 +1,9 @@
--- `records::array_size` reads the length of an array.
+-- `rules::array_size` reads the length of an array.
 use native.Mathlib.Omega.{arith}
 use Rattle.reading.specs.Bytes.{length-at, entry-at}
 use borrow.Author.Needs.{needs}
-use Rattle.records.proofs.array_size.Statement.{statement}
-use Rattle.records.proofs.array_size.Tie as tie
+use Rattle.rules.proofs.array_size.Statement.{statement}
+use Rattle.rules.proofs.array_size.Tie as tie
 
 mul-number-at : tie.Need-mul-number-at
 mul-number-at c = search needs

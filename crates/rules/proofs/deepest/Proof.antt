@@ -1,10 +1,10 @@
--- `format::records::deepest` gives the bound on nesting.
+-- `rules::deepest` gives the bound on nesting.
 use mathlib.Core.Path.{sym, _∙_}
 use borrow.Author.Tests.{eq-eqb, ne-eqb}
-use Rattle.records.specs.Records.{deepest}
+use Rattle.rules.specs.Rules.{deepest}
 use borrow.Author.Needs.{needs}
-use Rattle.records.proofs.deepest.Statement.{statement}
-use Rattle.records.proofs.deepest.Tie as tie
+use Rattle.rules.proofs.deepest.Statement.{statement}
+use Rattle.rules.proofs.deepest.Tie as tie
 
 byte-requires : tie.Need-byte-requires
 byte-requires c κs = search needs

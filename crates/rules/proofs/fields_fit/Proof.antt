@@ -1,13 +1,13 @@
--- `format::records::fields_fit` answers whether the fields of a record keep the rule of its kind.
+-- `rules::fields_fit` answers whether the fields of a record keep the rule of its kind.
 use mathlib.Core.Path.{_≡_, refl}
 use mathlib.Core.Logic.{⊎-elim}
 use Prim.Native.Nat.{ℕ, _≤_}
 use native.Mathlib.Omega.{arith}
 use Rattle.reading.specs.Bytes.{length-at}
-use Rattle.records.proofs.Fields.{Sizes, fit-cells-read, fit-array, fit-declaration, fit-branch, fit-loop, fit-call, fit-unknown}
+use Rattle.rules.proofs.Fields.{Sizes, fit-cells-read, fit-array, fit-declaration, fit-branch, fit-loop, fit-call, fit-unknown}
 use borrow.Author.Needs.{needs}
-use Rattle.records.proofs.fields_fit.Statement.{statement}
-use Rattle.records.proofs.fields_fit.Tie as tie
+use Rattle.rules.proofs.fields_fit.Statement.{statement}
+use Rattle.rules.proofs.fields_fit.Tie as tie
 
 -- what was read of the header and of the record's array
 sizes : (c : tie.After-array-size) → Sizes (c .before .before .before .before .args .plan .now) (c .before .before .before .before .args .x) (c .before .before .byte .result) (c .before .byte2 .result) (length-at (c .before .before .before .before .args .plan .now) (c .before .before .before .before .args .x .array))

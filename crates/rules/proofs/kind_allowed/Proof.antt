@@ -1,10 +1,10 @@
--- `format::records::kind_allowed` answers whether a kind is allowed where it stands.
+-- `rules::kind_allowed` answers whether a kind is allowed where it stands.
 use mathlib.Core.Path.{sym, _∙_}
 use borrow.Author.Tests.{lt-ltb, le-ltb, eq-eqb, ne-eqb}
-use Rattle.records.specs.Records.{allowed}
+use Rattle.rules.specs.Rules.{allowed}
 use borrow.Author.Needs.{needs}
-use Rattle.records.proofs.kind_allowed.Statement.{statement}
-use Rattle.records.proofs.kind_allowed.Tie as tie
+use Rattle.rules.proofs.kind_allowed.Statement.{statement}
+use Rattle.rules.proofs.kind_allowed.Tie as tie
 
 byte-requires : tie.Need-byte-requires
 byte-requires c κs = search needs

@@ -1,8 +1,8 @@
--- `format::records::record_tests` answers numbers 8, 9 and 10 of one record.
-use Rattle.records.proofs.Records.{field-stop, kind-stop, arm-stop, record-pass}
+-- `rules::record_tests` answers numbers 8, 9 and 10 of one record.
+use Rattle.rules.proofs.Rules.{field-stop, kind-stop, arm-stop, record-pass}
 use borrow.Author.Needs.{needs}
-use Rattle.records.proofs.record_tests.Statement.{statement}
-use Rattle.records.proofs.record_tests.Tie as tie
+use Rattle.rules.proofs.record_tests.Statement.{statement}
+use Rattle.rules.proofs.record_tests.Tie as tie
 
 cast-place : tie.Need-cast-place
 cast-place c = search needs

@@ -1,0 +1,119 @@
+// Numbers 8 to 10 of one record.
+ghost use mathlib.Core.Path.{_≡_};
+ghost use Prim.Native.Nat.{_+_, _≤_, _<_};
+ghost use lib.ListN.{length};
+ghost use Rattle.model.specs.Rows.{first};
+ghost use Rattle.reading.specs.Bytes.{array-count, length-at, declarations-in, first-record, bodies-at, fields-at};
+ghost use Rattle.rules.specs.Rules.{fields-fit, allowed, deepest, record-rows};
+use model::Verdict;
+use reading::Fields;
+use reading::byte;
+use reading::first_arm;
+use reading::kinds::BRANCH;
+use reading::kinds::CALL;
+use reading::kinds::COPY;
+use reading::kinds::DECLARED_DEPTH;
+use reading::kinds::LOOP;
+use reading::kinds::MARK;
+use reading::kinds::NEED;
+use reading::kinds::PLAIN;
+use reading::kinds::PLAIN_DEPTH;
+use reading::kinds::R;
+use reading::kinds::READ;
+use reading::kinds::RW;
+use reading::kinds::W;
+use reading::kinds::WRITE;
+use reading::number_at;
+use reading::second_arm;
+
+// The length of an array, zero for a number that no array has.
+fn array_size(plan: &[u8], arrays: u8, a: u8) -> u16
+    requires { ⌜ (arrays ≡ array-count (now plan)) × (bodies-at (now plan) ≤ length (now plan)) ⌝ }
+    ensures { λ r. ⌜ (a < array-count (now (plan .entry)) → r ≡ length-at (now (plan .entry)) a) ⌝ }
+{
+    if a < arrays {
+        return number_at(plan, 4 + 2 * (a as usize));
+    }
+    0
+}
+
+// Number 8: whether each field keeps its rule.
+pub fn fields_fit(plan: &[u8], x: Fields) -> bool
+    requires { ⌜ bodies-at (now plan) ≤ length (now plan) ⌝ }
+    ensures { λ r. ⌜ r ≡ fields-fit (now (plan .entry)) x ⌝ }
+{
+    let arrays = byte(plan, 1);
+    let bodies = byte(plan, 2);
+    let size = array_size(plan, arrays, x.array);
+    let on_side = x.side < 2;
+    let on_array = x.array < arrays;
+    let no_array = (x.side == 0) & (x.array == 0);
+    let last_zero = x.zero == 0;
+    let kind = x.kind;
+    match kind {
+        READ | WRITE | COPY => on_side & on_array & last_zero & (x.p < x.q) & (x.q <= size),
+        NEED | MARK | R | W | RW => on_side & on_array & last_zero & (x.p == 0) & (x.q == 0),
+        BRANCH => no_array & last_zero,
+        LOOP => no_array & last_zero & (x.q == 0),
+        CALL => no_array & last_zero & (x.q == 0) & (1 <= x.p) & (x.p < (bodies as u16)),
+        0 | 9..=15 | 19..=255 => true,
+    }
+}
+
+// Number 9: whether the kind is allowed for record r of a body whose declarations end before record `until`.
+pub fn kind_allowed(plan: &[u8], body: usize, until: usize, r: usize, x: Fields) -> bool
+    requires { ⌜ until ≡ first-record (now plan) body + declarations-in (now plan) body ⌝ }
+    ensures { λ a. ⌜ a ≡ allowed (now (plan .entry)) body r x ⌝ }
+{
+    let kind = x.kind;
+    if byte(plan, 0) == PLAIN {
+        return (READ <= kind) & (kind <= LOOP);
+    }
+    if body == 0 {
+        return (BRANCH <= kind) & (kind <= CALL);
+    }
+    if r < until {
+        return (R <= kind) & (kind <= RW);
+    }
+    (READ <= kind) & (kind <= LOOP)
+}
+
+// How many branches and loops one may stand inside.
+pub fn deepest(plan: &[u8]) -> usize
+    ensures { λ r. ⌜ r ≡ deepest (now (plan .entry)) ⌝ }
+{
+    if byte(plan, 0) == PLAIN {
+        PLAIN_DEPTH
+    } else {
+        DECLARED_DEPTH
+    }
+}
+
+// Numbers 8, 9 and 10 of record r, which has the fields x.
+pub fn record_tests(
+    plan: &[u8],
+    body: usize,
+    until: usize,
+    depth: usize,
+    end: usize,
+    r: usize,
+    x: Fields,
+) -> Verdict
+    requires { ⌜ (bodies-at (now plan) ≤ length (now plan)) × (r < 1024) × (x ≡ fields-at (now plan) r) × (until ≡ first-record (now plan) body + declarations-in (now plan) body) ⌝ }
+    ensures { λ v. ⌜ v ≡ first (record-rows (now (plan .entry)) body depth end r) ⌝ }
+{
+    let place = r as u16;
+    if !fields_fit(plan, x) {
+        return Verdict::Refused(8, place);
+    }
+    if !kind_allowed(plan, body, until, r, x) {
+        return Verdict::Refused(9, place);
+    }
+    let next = r + 1 + first_arm(x) + second_arm(x);
+    let limit = deepest(plan);
+    let nests = (BRANCH <= x.kind) & (x.kind <= LOOP);
+    if (end < next) | (nests & (limit < depth)) {
+        return Verdict::Refused(10, place);
+    }
+    Verdict::Accepted
+}
