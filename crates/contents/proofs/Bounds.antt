@@ -13,7 +13,8 @@ use Rattle.model.specs.declared.Verdict.the-variants.{Accepted}
 use Rattle.model.specs.Sides.{cells, first-of}
 use Rattle.model.specs.Rows.{first, each}
 use Rattle.reading.specs.Bytes.{kind-of, array-count, body-count, length-at, arrays-of, records-in, declarations-in, last-of-entry, sizes-of, first-record, record-count, bodies-at, between}
-use Rattle.contents.specs.Contents.{header-fits, header-rows, array-rows, body-rows, contents-rows, tail-rows, front-rows}
+use Rattle.frame.specs.Frame.{header-fits, header-rows, tail-rows}
+use Rattle.contents.specs.Contents.{array-rows, body-rows, contents-rows, front-rows}
 use Rattle.reading.proofs.Ranges.{of-range}
 use Rattle.model.proofs.Rows.{skipped, passed, each-passed}
 use Rattle.reading.proofs.Tables.{first-zero, all-cells}

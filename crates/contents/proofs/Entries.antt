@@ -1,23 +1,21 @@
--- Numbers 4 to 7: what one entry of the contents decides and adds, and what the tail decides.
+-- Numbers 4 and 5: what one entry of the contents decides and adds.
 use mathlib.Core.Path.{_≡_, refl, ap, sym, _∙_}
 use mathlib.Core.Logic.{⊎-elim}
 use mathlib.Core.Bool.{Bool, true, false, cond, not, _&&_, _||_}
 use mathlib.Core.List.{List, [], _∷_}
-use Prim.Native.Nat.{ℕ, suc, _+_, _*_, _-_, _%_, _≤_, _<_}
+use Prim.Native.Nat.{ℕ, suc, _+_, _-_, _≤_, _<_}
 use native.Mathlib.Decide.{decLt}
 use native.Mathlib.Numerals.{add-one}
 use native.Mathlib.Omega.{arith}
 use lib.Dec.{ltb, eqb}
-use lib.ListN.{length, take}
-use borrow.Author.Tests.{eq-eqb, ne-eqb, lt-ltb, le-ltb, ltb-true, ltb-false, not-true, not-false}
+use borrow.Author.Tests.{lt-ltb, le-ltb, ltb-true, ltb-false, not-true, not-false}
 use Rattle.model.proofs.Booleans.{or-none, or-out, or-left, or-right}
 use Rattle.model.specs.declared.Verdict.{Verdict}
 use Rattle.model.specs.declared.Verdict.the-variants.{Accepted, Refused}
 use Rattle.model.specs.Sides.{first-of}
 use Rattle.model.specs.Rows.{Row, row, first, each}
-use Rattle.reading.specs.Bytes.{byte-at, array-count, body-count, length-at, arrays-of, records-in, declarations-in, last-of-entry, first-record, record-count, bodies-at, between}
-use Rattle.sums.specs.Sums.{plain-sum, weighted-sum}
-use Rattle.contents.specs.Contents.{array-rows, body-rows, checks-fit, tail-rows}
+use Rattle.reading.specs.Bytes.{array-count, body-count, length-at, arrays-of, records-in, declarations-in, last-of-entry, first-record, between}
+use Rattle.contents.specs.Contents.{array-rows, body-rows}
 use Rattle.model.proofs.Rows.{refused, holds, skips, empty, each-stop}
 use Rattle.reading.proofs.Ranges.{in-range, out-of-range}
 use Rattle.reading.proofs.Tables.{next-cell, next-record}
@@ -112,32 +110,3 @@ module _ (f : List ℕ) (b : ℕ) (fits : Bool) (answer : cond fits Accepted (Re
 
 pub records-more : (f : List ℕ) (b n records : ℕ) → b < body-count f → n ≡ records-in f b → records ≡ first-record f b → records + n ≡ first-record f (b + 1)
 records-more f b n records one size before = rw (add-one, next-record f b one, ← before, ← size)
-
--- the tail
-either : (a b : Bool) → (not a || not b) ≡ not (a && b)
-either true b = refl
-either false b = refl
-
-module _ (f : List ℕ) (offset records : ℕ) (eo : offset ≡ bodies-at f) (er : records ≡ record-count f) where
-  pub length-stop : (length f ≡ offset + 8 * records + 2 → ⊥) → Refused 6 0 ≡ first (tail-rows f)
-  unfolding tail-rows
-  length-stop t = holds _ _ _ _ (rw (eo, er) at (ap not (ne-eqb (length f) (offset + 8 * records + 2) t)))
-
-  module _ (t : length f ≡ offset + 8 * records + 2) (a w p q : ℕ) (ea : a ≡ byte-at f (offset + 8 * records)) (ew : w ≡ byte-at f (offset + 8 * records + 1)) (ep : p ≡ plain-sum (take (offset + 8 * records) f) % 251) (eq : q ≡ weighted-sum 1 (take (offset + 8 * records) f) % 251) where
-    length-fits : not (eqb (length f) (bodies-at f + 8 * record-count f + 2)) ≡ false
-    length-fits = ap not (eq-eqb _ _ (rw (eo, er) at t))
-
-    last-two : length f - 2 ≡ offset + 8 * records
-    last-two = omega arith
-
-    checks-are : (not (eqb a p) || not (eqb w q)) ≡ not (checks-fit f)
-    unfolding checks-fit
-    checks-are = rw (last-two, ← ea, ← ew, ← ep, ← eq) (either (eqb a p) (eqb w q))
-
-    pub check-stop : (not (eqb a p) || not (eqb w q)) ≡ true → Refused 7 0 ≡ first (tail-rows f)
-    unfolding tail-rows
-    check-stop u = skips _ _ _ _ _ length-fits (holds _ _ _ _ (sym checks-are ∙ u))
-
-    pub tail-pass : (not (eqb a p) || not (eqb w q)) ≡ false → Accepted ≡ first (tail-rows f)
-    unfolding tail-rows
-    tail-pass u = skips _ _ _ _ _ length-fits (skips _ _ _ _ _ (sym checks-are ∙ u) empty)

@@ -9,7 +9,8 @@ use Rattle.model.specs.declared.Verdict.the-variants.{Accepted, Stopped, Refuse
 use Rattle.contents.specs.declared.Opened.{Opened}
 use Rattle.model.specs.Rows.{Row, first, each}
 use Rattle.reading.specs.Bytes.{array-count, body-count, bodies-at}
-use Rattle.contents.specs.Contents.{header-rows, array-rows, body-rows, contents-rows, tail-rows, front-rows}
+use Rattle.frame.specs.Frame.{header-rows, tail-rows}
+use Rattle.contents.specs.Contents.{array-rows, body-rows, contents-rows, front-rows}
 use Rattle.contents.specs.Found.{nothing-found, found, found-by}
 use Rattle.model.proofs.Rows.{holds, skips, stop, pass}
 

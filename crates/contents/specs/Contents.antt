@@ -1,25 +1,13 @@
--- Numbers 1 to 7 (document 01, 'Numbers by the place where each is checked'): the rows of header, contents and tail, in the table's order.
-use Prim.Native.Nat.{ℕ, suc, _+_, _*_, _-_}
-use mathlib.Core.Bool.{Bool, not, _&&_, _||_}
+-- Numbers 3 to 5 (document 01, 'Numbers by the place where each is checked'): the rows of the contents, and those of header, contents and tail, in the table's order.
+use Prim.Native.Nat.{ℕ, suc}
+use mathlib.Core.Bool.{not, _&&_, _||_}
 use mathlib.Core.List.{List, [], _∷_, _++_}
-use lib.ListN.{length, take}
+use lib.ListN.{length}
 use lib.Dec.{ltb, eqb}
 use Rattle.model.specs.Sides.{first-of}
 use Rattle.model.specs.Rows.{Row, row, each}
-use Rattle.sums.specs.Sums.{first-check, second-check}
-use Rattle.reading.specs.Bytes.{byte-at, kind-of, array-count, body-count, length-at, arrays-of, records-in, declarations-in, last-of-entry, first-record, record-count, bodies-at, between}
-
--- HEADER. "Byte 0: kind, 1 declared, 2 plain. Byte 1: arrays, 1 to 32. Byte 2: bodies, 1 to 32, for a plain plan 1. Byte 3: zero."
-unfoldable pub header-fits : List ℕ → Bool
-header-fits f =
-    between 1 2 (kind-of f) && between 1 32 (array-count f) && between 1 32 (body-count f) && (eqb (kind-of f) 1 || eqb (body-count f) 1) && eqb (byte-at f 3) 0
-
--- "1 under 4 bytes; 2 a header byte against its rule"
-unfoldable pub header-rows : List ℕ → List Row
-header-rows f =
-    row (ltb (length f) 4) 1 0
-    ∷ row (not (header-fits f)) 2 0
-    ∷ []
+use Rattle.reading.specs.Bytes.{array-count, body-count, length-at, arrays-of, records-in, declarations-in, last-of-entry, first-record, bodies-at, between}
+use Rattle.frame.specs.Frame.{header-rows, tail-rows}
 
 -- CONTENTS. "4 array length or their total (place: array)": a length is "1 to 4,096, together at most 4,096"
 unfoldable pub array-rows : List ℕ → ℕ → List Row
@@ -42,19 +30,6 @@ unfoldable pub contents-rows : List ℕ → List Row
 contents-rows f =
     row (ltb (length f) (bodies-at f)) 3 0
     ∷ (each (array-count f) (array-rows f) ++ each (body-count f) (body-rows f))
-
--- TAIL. whether the last two bytes are the check bytes of those before them
-unfoldable pub checks-fit : List ℕ → Bool
-checks-fit f =
-    let n = length f - 2 in
-    eqb (byte-at f n) (first-check (take n f)) && eqb (byte-at f (n + 1)) (second-check (take n f))
-
--- "6 file length not as the contents say; 7 check bytes"
-unfoldable pub tail-rows : List ℕ → List Row
-tail-rows f =
-    row (not (eqb (length f) (bodies-at f + 8 * record-count f + 2))) 6 0
-    ∷ row (not (checks-fit f)) 7 0
-    ∷ []
 
 -- "Places are tried in this order": header, contents, tail
 unfoldable pub front-rows : List ℕ → List Row

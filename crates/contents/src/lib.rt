@@ -1,27 +1,25 @@
-// Numbers 1 to 7: the header, the contents, the tail.
+// Numbers 3 to 5, the contents, and numbers 1 to 7 together.
 ghost use mathlib.Core.Path.{_≡_};
 ghost use mathlib.Core.Bool.{true, cond};
-ghost use mathlib.Core.List.{List, _++_};
-ghost use Prim.Native.Nat.{ℕ, _+_, _≤_, _<_};
+ghost use mathlib.Core.List.{_++_};
+ghost use Prim.Native.Nat.{_+_, _≤_, _<_};
 ghost use lib.ListN.{length};
 ghost use Rattle.model.specs.declared.Verdict.the-variants.{Accepted, Refused};
 ghost use Rattle.model.specs.Rows.{first, each};
-ghost use Rattle.reading.specs.Bytes.{byte-at, kind-of, array-count, body-count, records-in, declarations-in, first-record, record-count, bodies-at};
-ghost use Rattle.contents.specs.Contents.{header-fits, header-rows, array-rows, body-rows, tail-rows, front-rows};
+ghost use Rattle.reading.specs.Bytes.{array-count, body-count, records-in, declarations-in, first-record, record-count, bodies-at};
+ghost use Rattle.frame.specs.Frame.{tail-rows};
+ghost use Rattle.contents.specs.Contents.{array-rows, body-rows, front-rows};
 ghost use Rattle.contents.specs.Found.{nothing-found, found, found-by};
+use frame::header;
+use frame::tail;
 use model::Verdict;
 use reading::byte;
 use reading::entry_at;
-use reading::kinds::DECLARED;
-use reading::kinds::MOST_ARRAYS;
-use reading::kinds::MOST_BODIES;
 use reading::kinds::MOST_CELLS;
 use reading::kinds::MOST_RECORDS;
 use reading::kinds::NAMES;
-use reading::kinds::PLAIN;
 use reading::kinds::STARTS;
 use reading::number_at;
-use sums::check_sums;
 
 // What opening gives: the answer, and what was found in a file that opens.
 pub struct Opened {
@@ -57,30 +55,6 @@ pub struct Bodies {
     pub records: u16,
     pub starts: [u16; STARTS],
     pub declarations: [u8; NAMES],
-}
-
-// Whether the header's bytes keep their rules.
-fn header_fits(kind: u8, arrays: u8, bodies: u8, zero: u8) -> bool
-    ensures { λ r. ⌜ ((f : List ℕ) → (kind ≡ kind-of f) × (arrays ≡ array-count f) × (bodies ≡ body-count f) × (zero ≡ byte-at f 3) → r ≡ header-fits f) ⌝ }
-{
-    ((DECLARED <= kind) & (kind <= PLAIN))
-        & ((1 <= arrays) & (arrays <= MOST_ARRAYS))
-        & ((1 <= bodies) & (bodies <= MOST_BODIES))
-        & ((kind == DECLARED) | (bodies == 1))
-        & (zero == 0)
-}
-
-// Numbers 1 and 2.
-pub fn header(plan: &[u8]) -> Verdict
-    ensures { λ r. ⌜ r ≡ first (header-rows (now (plan .entry))) ⌝ }
-{
-    if plan.len() < 4 {
-        return Verdict::Refused(1, 0);
-    }
-    if !header_fits(byte(plan, 0), byte(plan, 1), byte(plan, 2), byte(plan, 3)) {
-        return Verdict::Refused(2, 0);
-    }
-    Verdict::Accepted
 }
 
 // The answer where the entries before `at` pass, and the one at `at`, if there is one, does not.
@@ -174,24 +148,6 @@ pub fn body_entries(plan: &[u8]) -> Bodies
         starts: starts,
         declarations: declarations,
     }
-}
-
-// Numbers 6 and 7, of a file with so many records, whose bodies begin at `offset`.
-pub fn tail(plan: &[u8], offset: usize, records: usize) -> Verdict
-    requires { ⌜ (offset ≡ bodies-at (now plan)) × (offset ≤ 2048) × (records ≡ record-count (now plan)) × (records ≤ 1024) ⌝ }
-    ensures { λ r. ⌜ r ≡ first (tail-rows (now (plan .entry))) ⌝ }
-{
-    let n = offset + 8 * records;
-    if plan.len() != n + 2 {
-        return Verdict::Refused(6, 0);
-    }
-    let s = check_sums(&plan[..n]);
-    let plain = byte(plan, n);
-    let weighted = byte(plan, n + 1);
-    if (plain != s.plain) | (weighted != s.weighted) {
-        return Verdict::Refused(7, 0);
-    }
-    Verdict::Accepted
 }
 
 // An answer with nothing found.

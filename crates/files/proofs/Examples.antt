@@ -9,7 +9,8 @@ use Rattle.model.specs.Blocks.{Block, Plan}
 use Rattle.model.specs.Rows.{first, each}
 use Rattle.reading.specs.Bytes.{u16-at, table, length-at, arrays-of, entry-at, sizes-of, fields-at, first-arm, second-arm}
 use Rattle.sums.specs.Sums.{plain-sum, weighted-sum, check-bytes}
-use Rattle.contents.specs.Contents.{header-fits, header-rows, array-rows, body-rows, contents-rows, checks-fit, tail-rows, front-rows}
+use Rattle.frame.specs.Frame.{header-fits, header-rows, checks-fit, tail-rows}
+use Rattle.contents.specs.Contents.{array-rows, body-rows, contents-rows, front-rows}
 use Rattle.rules.specs.Rules.{fields-fit, allowed, deepest, record-rows}
 use Rattle.records.specs.Records.{block-rows, records-rows}
 use Rattle.format.specs.Opening.{open-rows, opening}

@@ -16,7 +16,8 @@ use Rattle.model.specs.declared.Verdict.the-variants.{Accepted, Stopped, Refuse
 use Rattle.model.specs.Sides.{first-of}
 use Rattle.model.specs.Rows.{Row, row, first, each}
 use Rattle.reading.specs.Bytes.{byte-at, u16-at, kind-of, array-count, body-count, table, length-at, arrays-of, entry-at, records-in, declarations-in, last-of-entry, sizes-of, first-record, record-count, bodies-at}
-use Rattle.contents.specs.Contents.{header-fits, header-rows, array-rows, body-rows, contents-rows, tail-rows, front-rows}
+use Rattle.frame.specs.Frame.{header-fits, header-rows, tail-rows}
+use Rattle.contents.specs.Contents.{array-rows, body-rows, contents-rows, front-rows}
 use Rattle.records.specs.Records.{records-rows}
 use Rattle.format.specs.Opening.{open-rows, opening, opened}
 use Rattle.contents.specs.Found.{nothing-found, found-by}

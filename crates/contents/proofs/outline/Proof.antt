@@ -5,7 +5,7 @@ use lib.ListN.{length}
 use Rattle.model.specs.declared.Verdict.the-variants.{Accepted}
 use Rattle.model.specs.Rows.{first}
 use Rattle.reading.specs.Bytes.{entry-at, bodies-at}
-use Rattle.contents.specs.Contents.{header-rows}
+use Rattle.frame.specs.Frame.{header-rows}
 use Rattle.contents.specs.Found.{found-by}
 use Rattle.model.proofs.Rows.{refused, turned}
 use Rattle.contents.proofs.Places.{front-header, front-short, front-entries, nothing}

@@ -13,7 +13,8 @@ use Rattle.model.specs.Sides.{Arrays, cells, first-of}
 use Rattle.model.proofs.Booleans.{and-out}
 use Rattle.model.specs.Rows.{Row, row, first, each}
 use Rattle.reading.specs.Bytes.{array-count, length-at, first-record, bodies-at, between}
-use Rattle.contents.specs.Contents.{header-fits, header-rows, array-rows, body-rows, contents-rows, tail-rows, front-rows}
+use Rattle.frame.specs.Frame.{header-fits, header-rows, tail-rows}
+use Rattle.contents.specs.Contents.{array-rows, body-rows, contents-rows, front-rows}
 use Rattle.records.specs.Records.{records-rows}
 use Rattle.format.specs.Opening.{open-rows, opening}
 use Rattle.files.specs.Files.{Body}

@@ -14,7 +14,7 @@ use Rattle.model.proofs.Booleans.{and-in}
 use Rattle.reading.specs.declared.Fields.{Fields}
 use Rattle.reading.specs.Bytes.{byte-at, u16-at, kind-of, array-count, body-count, length-at, arrays-of, entry-at, records-in, declarations-in, last-of-entry, sizes-of, first-record, record-count, bodies-at, fields-at}
 use Rattle.sums.specs.Sums.{plain-sum, weighted-sum, check-bytes}
-use Rattle.contents.specs.Contents.{checks-fit}
+use Rattle.frame.specs.Frame.{checks-fit}
 use Rattle.files.specs.Files.{u16-bytes, record-bytes, Body, entry-bytes, joined, front, file}
 use Rattle.files.proofs.Files.Holding.{Along, none, more, Holds, front-part, back-part, at-place, along-of, each-so, along-map, itself, joined-length, pieces, table-is}
 

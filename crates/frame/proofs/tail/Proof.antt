@@ -1,10 +1,10 @@
--- `contents::tail` answers numbers 6 and 7.
+-- `frame::tail` answers numbers 6 and 7.
 use native.Mathlib.Omega.{arith}
 use lib.ListN.{length-take}
-use Rattle.contents.proofs.Entries.{length-stop, check-stop, tail-pass}
+use Rattle.frame.proofs.Frame.{length-stop, check-stop, tail-pass}
 use borrow.Author.Needs.{needs}
-use Rattle.contents.proofs.tail.Statement.{statement}
-use Rattle.contents.proofs.tail.Tie as tie
+use Rattle.frame.proofs.tail.Statement.{statement}
+use Rattle.frame.proofs.tail.Tie as tie
 
 mul-n : tie.Need-mul-n
 mul-n c = search needs

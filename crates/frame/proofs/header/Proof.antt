@@ -1,12 +1,12 @@
--- `contents::header` answers numbers 1 and 2.
+-- `frame::header` answers numbers 1 and 2.
 use mathlib.Core.Path.{_≡_, ap, sym, _∙_}
 use mathlib.Core.Bool.{not}
 use borrow.Author.Tests.{lt-ltb, le-ltb}
-use Rattle.contents.specs.Contents.{header-fits, header-rows}
+use Rattle.frame.specs.Frame.{header-fits, header-rows}
 use Rattle.model.proofs.Rows.{holds, skips, empty}
 use borrow.Author.Needs.{needs}
-use Rattle.contents.proofs.header.Statement.{statement}
-use Rattle.contents.proofs.header.Tie as tie
+use Rattle.frame.proofs.header.Statement.{statement}
+use Rattle.frame.proofs.header.Tie as tie
 
 -- what was found of the four bytes
 fits : (c : tie.After-header-fits) → c .header-fits .result ≡ header-fits (c .before .before .before .before .before .before .before .args .plan .now)
