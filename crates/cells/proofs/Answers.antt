@@ -1,5 +1,5 @@
 -- The answer over the cells, one cell at a time.
-use Prim.Native.Nat.{ℕ, suc, _+_, _-_, _≤_, _<_}
+use Prim.Native.Nat.{ℕ, zero, suc, _+_, _-_, _≤_, _<_}
 use mathlib.Core.Path.{_≡_, refl, subst}
 use mathlib.Core.Logic.{inl, inr}
 use mathlib.Core.Bool.{Bool, true, false, cond, true≢false}
@@ -64,16 +64,17 @@ module _ (f : List ℕ) (bodies : ℕ) (w : Plain f bodies) (array first next : 
       let l : first-of (arrays-of f) (array + 1) ≤ first-of (arrays-of f) (array-count f) = first-rises (arrays-of f) (array + 1) (array-count f) (omega (arith, s .one)) in
       record { size = omega (arith, s .begins, s .ends); limit = omega (arith, s .ends, all-cells f, opened-facts f (w .opens) .bounds .cells-below) }
 
-  module _ (c : ℕ) (low : first ≤ c) (high : c < next) (v : Verdict) (fits : Fits c (StopsAt (plan-of f)) v) where
-    -- with its own stop
-    pub looked : (u : Verdict) (k : ℕ) → Least (record-of k) (λ r. StopsAt (plan-of f) r c) → u ≡ with-cell v c (record-of k) → Fits (c + 1) (StopsAt (plan-of f)) u
-    looked u k l e = rw (e, add-one) (fits-cell c (StopsAt (plan-of f)) v (record-of k) fits l)
+  -- a cell with its own stop
+  pub looked : (c : ℕ) (v : Verdict) → Fits c (StopsAt (plan-of f)) v → (u : Verdict) (k : ℕ) → Least (record-of k) (λ r. StopsAt (plan-of f) r c) → u ≡ with-cell v c (record-of k) → Fits (c + 1) (StopsAt (plan-of f)) u
+  looked c v fits u k l e = rw (e, add-one) (fits-cell c (StopsAt (plan-of f)) v (record-of k) fits l)
 
-    -- with that of the cell before it
-    pub shared : (m : List ℕ) → Marked f (record-count f) m → (c ≡ first → ⊥) → (getD m c 0 ≡ 1 → ⊥) → Fits (c + 1) (StopsAt (plan-of f)) v
-    shared m k nf nm =
+  -- those without a mark, each with that of the cell before it
+  module _ (m : List ℕ) (k : Marked f (record-count f) m) (v : Verdict) (n : ℕ) (h : n ≤ next) where
+    pub shared : (d c : ℕ) → first < c → n ≡ c + d → ((i : ℕ) → c ≤ i → i < n → getD m i 0 ≡ 1 → ⊥) → Fits c (StopsAt (plan-of f)) v → Fits n (StopsAt (plan-of f)) v
+    shared zero c low e nm fits = let z : n ≡ c = omega arith in rw z fits
+    shared (suc d) c low e nm fits =
         let o : ℕ = c - first - 1 in
         let inside : suc o < length-of (arrays-of f) array = omega (arith, ends .size) in
-        let e : cell-at f array (suc o) ≡ c = omega (arith, s .begins) in
-        rw add-one (fits-alike c (cell-at f array o) (StopsAt (plan-of f)) v (omega (arith, s .begins))
-        (λ r p. stop-alike f bodies w array o inside (k .alike array o inside (rw e nm)) r (rw e p)) fits)
+        let z : cell-at f array (suc o) ≡ c = omega (arith, s .begins) in
+        shared d (suc c) (omega arith) (omega arith) (λ i l. nm i (omega arith)) (fits-alike c (cell-at f array o) (StopsAt (plan-of f)) v (omega (arith, s .begins))
+        (λ r p. stop-alike f bodies w array o inside (k .alike array o inside (rw z (nm c (omega arith) (omega arith)))) r (rw z p)) fits)

@@ -1,6 +1,7 @@
 // The answer over the cells of an opened plain plan: cells that no record tells apart share one walk.
 ghost use mathlib.Core.Path.{_≡_};
-ghost use Prim.Native.Nat.{_+_, _<_};
+ghost use Prim.Native.Nat.{ℕ, _+_, _≤_, _<_};
+ghost use lib.ListN.{getD};
 ghost use Rattle.model.specs.Sides.{length-of};
 ghost use Rattle.model.specs.Check.{Answers};
 ghost use Rattle.model.proofs.Through.{StopsAt};
@@ -56,7 +57,22 @@ fn stop_of(
     t.low
 }
 
-// The answer for the cells before an array, and then for its own cells.
+// The first cell from `from` on that has a mark, `next` if there is none before that one.
+fn next_class(m: &[u8; PLACES], from: usize, next: usize) -> usize
+    requires { ⌜ (from ≤ next) × (next ≤ 4096) ⌝ }
+    ensures { λ n. ⌜ (from ≤ n) × (n ≤ next) × ((c : ℕ) → from ≤ c → c < n → getD (now (m .entry)) c 0 ≡ 1 → ⊥) ⌝ }
+{
+    let mut c = from;
+    while c < next {
+        if m[c] == 1 {
+            return c;
+        }
+        c += 1;
+    }
+    c
+}
+
+// The answer for the cells before an array, and then for its own cells: those that are told apart from the cell before them.
 fn over_array(
     plan: &[u8],
     bodies: usize,
@@ -75,11 +91,9 @@ fn over_array(
     let mut v = before;
     let mut c = first;
     while c < next {
-        if (c == first) | (m[c] == 1) {
-            let k = stop_of(plan, bodies, records, rows, ahead, array, c - first, c);
-            v = with_cell(v, Cell(c as u16), k);
-        }
-        c += 1;
+        let k = stop_of(plan, bodies, records, rows, ahead, array, c - first, c);
+        v = with_cell(v, Cell(c as u16), k);
+        c = next_class(m, c + 1, next);
     }
     v
 }
@@ -99,8 +113,8 @@ fn answer_with(
 {
     let m = marks(plan, bodies, records, starts);
     let mut v = Verdict::Accepted;
+    let mut first = 0;
     for a in 0..arrays {
-        let first = starts[a] as usize;
         let next = starts[a + 1] as usize;
         v = over_array(
             plan,
@@ -114,6 +128,7 @@ fn answer_with(
             next,
             v,
         );
+        first = next;
     }
     v
 }

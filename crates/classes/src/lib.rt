@@ -5,6 +5,7 @@ ghost use Rattle.reading.specs.Bytes.{record-count};
 ghost use Rattle.format.specs.Inner.Walks.{Plain, Starts};
 ghost use Rattle.statuses.specs.Inner.Sets.{record-of};
 ghost use Rattle.classes.specs.Inner.Marks.{Marked};
+ghost use Rattle.classes.specs.Inner.Named.{named-by};
 use model::Cell;
 use model::Record;
 use model::Verdict;
@@ -36,22 +37,24 @@ pub fn marks(plan: &[u8], bodies: usize, records: usize, starts: &[u16; STARTS])
     m
 }
 
+// The record that an answer names, NONE if it accepts. A refusal stays as it is: no record is below 0.
+fn named(v: Verdict) -> u16
+    ensures { λ r. ⌜ r ≡ named-by v ⌝ }
+{
+    match v {
+        Verdict::Accepted => NONE,
+        Verdict::Stopped(r, _) => r.0,
+        Verdict::Refused(_, _) => 0,
+    }
+}
+
 // The answer for the cells before cell c, and then for c too, which can stop at record k.
 pub fn with_cell(v: Verdict, c: Cell, k: u16) -> Verdict
     ensures { λ r. ⌜ r ≡ with-cell v (c .0) (record-of k) ⌝ }
 {
-    if k == NONE {
-        return v;
+    let low = named(v);
+    if k < low {
+        return Verdict::Stopped(Record(k), c);
     }
-    match v {
-        Verdict::Accepted => Verdict::Stopped(Record(k), c),
-        Verdict::Stopped(r, d) => {
-            if k < r.0 {
-                Verdict::Stopped(Record(k), c)
-            } else {
-                Verdict::Stopped(r, d)
-            }
-        }
-        Verdict::Refused(number, place) => Verdict::Refused(number, place),
-    }
+    v
 }
