@@ -2,22 +2,49 @@
 ghost use mathlib.Core.Path.{_≡_};
 ghost use Prim.Native.Nat.{_≤_};
 ghost use lib.ListN.{length};
-ghost use Rattle.reading.specs.Bytes.{records-in};
+ghost use Rattle.model.specs.declared.Verdict.the-variants.{Accepted};
 ghost use Rattle.contents.specs.Found.{found};
 ghost use Rattle.format.specs.Opening.{opened};
 ghost use Rattle.judge.specs.Judged.{judged};
 ghost use Rattle.model.specs.Blocks.{size};
-ghost use Rattle.sizes.specs.Inner.Sizes.{DeclaredFile, Places, place};
+ghost use Rattle.sizes.specs.Inner.Sizes.{DeclaredFile, Places};
 ghost use Rattle.files.specs.Expansions.{expansion-of, expansion-file};
 ghost use Rattle.expand.specs.Expanded.{expand-answer, expanded, length-of-expansion};
 use contents::Opened;
 use format::open;
 use judge::judge_opened;
 use model::Verdict;
-use reading::kinds::LARGEST;
+use reading::byte;
 use reading::kinds::MOST_EXPANDED;
+use reading::kinds::PLACES;
+use sizes::expansion_size;
 use sizes::places;
 use writer::put_file;
+
+// How long the expansion's file is, where it has so many records.
+fn file_length(plan: &[u8], records: u32) -> u32
+    requires { ⌜ DeclaredFile (now plan) × (records ≡ size (expansion-of (now plan) .body)) × (records ≤ 1024) ⌝ }
+    ensures { λ n. ⌜ n ≡ length (expansion-file (now (plan .entry))) ⌝ }
+{
+    4 + 2 * (byte(plan, 1) as u32) + 4 + 8 * records + 2
+}
+
+// 16, 17, or accepted with the expansion's file written, where the judge accepts the plan and the places are those of its expansion.
+fn expand_placed(plan: &[u8], o: Opened, places: &[u32; PLACES], out: &mut [u8]) -> Verdict
+    requires { ⌜ (Accepted ≡ judged (now plan)) × (o ≡ found (now plan)) × Places (now plan) (now places) ⌝ }
+    ensures answer { λ r. ⌜ r ≡ expand-answer (now (plan .entry)) (now (out .entry)) ⌝ }
+    ensures output { λ _. ⌜ now (out .exit) ≡ expanded (now (plan .entry)) (now (out .entry)) ⌝ }
+{
+    let records = expansion_size(o, places);
+    if MOST_EXPANDED < records {
+        return Verdict::Refused(16, 0);
+    }
+    if out.len() < (file_length(plan, records) as usize) {
+        return Verdict::Refused(17, 0);
+    }
+    put_file(plan, o, places, out, records);
+    Verdict::Accepted
+}
 
 // The judge's answer, 16, 17, or accepted with the expansion's file written over the front of the output; opening has found the plan file to be o.
 pub fn expand_judged(plan: &[u8], o: Opened, out: &mut [u8], answer: Verdict) -> Verdict
@@ -29,18 +56,7 @@ pub fn expand_judged(plan: &[u8], o: Opened, out: &mut [u8], answer: Verdict) ->
         return answer;
     };
     let places = places(plan, o);
-    let starts = o.body_starts;
-    let end = starts[1] as usize;
-    let records = places[end] as usize;
-    if LARGEST < records {
-        return Verdict::Refused(16, 0);
-    }
-    let arrays = o.arrays as usize;
-    if out.len() < 4 + 2 * arrays + 4 + 8 * records + 2 {
-        return Verdict::Refused(17, 0);
-    }
-    put_file(plan, o, &places, out, end);
-    Verdict::Accepted
+    expand_placed(plan, o, &places, out)
 }
 
 // Expands a plan file of any bytes into the output.
@@ -75,9 +91,7 @@ fn expansion_records(plan: &[u8], o: Opened) -> u32
     ensures { λ r. ⌜ r ≡ size (expansion-of (now (plan .entry)) .body) ⌝ }
 {
     let places = places(plan, o);
-    let starts = o.body_starts;
-    let end = starts[1] as usize;
-    places[end]
+    expansion_size(o, &places)
 }
 
 // How long an output the expansion of a plan file of any bytes needs: the answer that it then gets, and where that accepts, the length of its file.
@@ -95,6 +109,6 @@ pub fn expansion_length(plan: &[u8]) -> Length
     }
     Length {
         verdict: Verdict::Accepted,
-        bytes: 4 + 2 * (o.arrays as u32) + 4 + 8 * total + 2,
+        bytes: file_length(plan, total),
     }
 }

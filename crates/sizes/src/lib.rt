@@ -1,6 +1,7 @@
 // How many records the expansion has, and where each record of body 0 begins in it.
 ghost use mathlib.Core.Path.{_≡_};
 ghost use Prim.Native.Nat.{_+_, _≤_, _<_};
+ghost use lib.ListN.{getD};
 ghost use Rattle.model.specs.Blocks.{size};
 ghost use Rattle.reading.specs.Bytes.{body-count, records-in, bodies-at};
 ghost use Rattle.reading.specs.Inner.Places.{Inside};
@@ -93,4 +94,22 @@ pub fn places(plan: &[u8], o: Opened) -> [u32; PLACES]
         places[r] = n;
     }
     places
+}
+
+// Where body 0 ends, by what opening found.
+pub fn body0_end(o: Opened) -> usize
+    requires { ⌜ getD (o .«body_starts») 1 0 ≤ 1024 ⌝ }
+    ensures { λ n. ⌜ n ≡ getD (o .«body_starts») 1 0 ⌝ }
+{
+    let starts = o.body_starts;
+    starts[1] as usize
+}
+
+// How many records the expansion has.
+pub fn expansion_size(o: Opened, places: &[u32; PLACES]) -> u32
+    requires { ⌜ getD (o .«body_starts») 1 0 ≤ 1024 ⌝ }
+    ensures { λ n. ⌜ n ≡ getD (now (places .entry)) (getD (o .«body_starts») 1 0) 0 ⌝ }
+{
+    let end = body0_end(o);
+    places[end]
 }

@@ -25,6 +25,7 @@ use reading::kinds::PLACES;
 use reading::kinds::PLAIN;
 use reading::record_at;
 use reading::second_arm;
+use sizes::body0_end;
 use sums::check_sums;
 
 // Bytes as they are.
@@ -151,14 +152,13 @@ pub fn put_contents(plan: &[u8], out: &mut [u8], arrays: u8, records: u16)
 }
 
 // The expansion's file: header and contents, then the records in the part behind them, then the check bytes.
-pub fn put_file(plan: &[u8], o: Opened, places: &[u32; PLACES], out: &mut [u8], end: usize)
-    requires { ⌜ DeclaredFile (now plan) × (o ≡ found (now plan)) × Places (now plan) (now places) × (end ≡ records-in (now plan) 0) × (place (now plan) end ≤ 1024) × (length (expansion-file (now plan)) ≤ length (now out)) ⌝ }
+pub fn put_file(plan: &[u8], o: Opened, places: &[u32; PLACES], out: &mut [u8], records: u32)
+    requires { ⌜ DeclaredFile (now plan) × (o ≡ found (now plan)) × Places (now plan) (now places) × (records ≡ place (now plan) (records-in (now plan) 0)) × (records ≤ 1024) × (length (expansion-file (now plan)) ≤ length (now out)) ⌝ }
     ensures { λ _. ⌜ now (out .exit) ≡ over (expansion-file (now (plan .entry))) (now (out .entry)) ⌝ }
 {
     let arrays = o.arrays;
-    let records = places[end];
     let bodies = 8 + 2 * (arrays as usize);
     put_contents(plan, out, arrays, records as u16);
-    put_body(plan, o, places, &mut out[bodies..], end);
+    put_body(plan, o, places, &mut out[bodies..], body0_end(o));
     put_checks(out, bodies + 8 * (records as usize));
 }
