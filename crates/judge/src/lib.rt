@@ -7,7 +7,7 @@ ghost use Rattle.reading.specs.Bytes.{kind-of, body-count, declarations-in};
 ghost use Rattle.contents.specs.Found.{found};
 ghost use Rattle.format.specs.Opening.{opening, opened};
 ghost use Rattle.passes.specs.Inner.Passes.{PassAt};
-ghost use Rattle.permits.specs.Inner.Uses.{ByArray};
+ghost use Rattle.permits.specs.Inner.Uses.{Sides};
 ghost use Rattle.marks.specs.Inner.Marks.{Tables};
 ghost use Rattle.judge.specs.Judged.{w-rows, pass-rows, judged};
 ghost use Rattle.judge.specs.Inner.Unmet.{Decides};
@@ -18,11 +18,11 @@ use marks::met;
 use model::Verdict;
 use passes::Extent;
 use passes::extent_of;
-use permits::Declared;
 use permits::declarations;
 use permits::uses;
 use reading::kinds::CELLS;
 use reading::kinds::DECLARED;
+use reading::kinds::NAMES;
 use reading::kinds::STARTS;
 use reading::record_at;
 
@@ -42,18 +42,17 @@ fn first_unmet(plan: &[u8], starts: &[u16; STARTS], set: &[bool; CELLS], e: Exte
     Verdict::Accepted
 }
 
-// Number 15 of a pass.
-fn unmet(plan: &[u8], starts: &[u16; STARTS], e: Extent, d: Declared) -> Verdict
-    requires { ⌜ PassAt (now plan) e × ByArray (now plan) e d × Tables (now plan) (now starts) (d .sides) ⌝ }
+// Number 15 of a pass, of whose declarations these are the sides by array.
+fn unmet(plan: &[u8], starts: &[u16; STARTS], e: Extent, sides: &[u8; NAMES]) -> Verdict
+    requires { ⌜ PassAt (now plan) e × Sides (now plan) e (now sides) × Tables (now plan) (now starts) (now sides) ⌝ }
     ensures { λ v. ⌜ v ≡ first (each (declarations-in (now (plan .entry)) (e .body)) (w-rows (now (plan .entry)) (e .body))) ⌝ }
 {
-    let sides = d.sides;
     let mut set = [false; CELLS];
     mark_written(
         plan,
         e.bodies,
         starts,
-        &sides,
+        sides,
         &mut set,
         e.from + e.declarations,
         e.from + e.records,
@@ -66,16 +65,17 @@ fn judge_pass(plan: &[u8], starts: &[u16; STARTS], e: Extent) -> Verdict
     requires { ⌜ PassAt (now plan) e × (now starts ≡ found (now plan) .«array_starts») ⌝ }
     ensures { λ v. ⌜ v ≡ first (pass-rows (now (plan .entry)) (e .body)) ⌝ }
 {
-    let d = declarations(plan, e);
-    let twice = d.verdict;
+    let mut kinds = [0u8; NAMES];
+    let mut sides = [0u8; NAMES];
+    let twice = declarations(plan, e, &mut kinds, &mut sides);
     let Verdict::Accepted = twice else {
         return twice;
     };
-    let used = uses(plan, e, d);
+    let used = uses(plan, e, &kinds, &sides);
     let Verdict::Accepted = used else {
         return used;
     };
-    unmet(plan, starts, e, d)
+    unmet(plan, starts, e, &sides)
 }
 
 // Numbers 12 to 15 of every pass, in which opening found o.

@@ -8,7 +8,7 @@ use native.Mathlib.Decide.{decLt}
 use native.Mathlib.Numerals.{add-one}
 use native.Mathlib.Omega.{arith}
 use lib.Dec.{eqb}
-use lib.ListN.{getD, set}
+use lib.ListN.{getD, set, replicate}
 use borrow.Author.Tests.{lt-ltb, le-ltb, eq-eqb, ne-eqb, eqb-true, not-false}
 use Rattle.model.specs.declared.Verdict.the-variants.{Accepted, Refused}
 use Rattle.model.specs.Lists.{any}
@@ -24,11 +24,10 @@ use Rattle.format.proofs.Walking.{array-start}
 use Rattle.reading.proofs.Ranges.{out-of-range}
 use Rattle.model.proofs.Rows.{holds, skips, skipped, empty, each-passed}
 use Rattle.reading.proofs.Tables.{getD-table, set-table}
-use Rattle.permits.specs.declared.Declared.{Declared}
 use Rattle.passes.specs.declared.Extent.{Extent}
 use Rattle.permits.specs.Permits.{declared-before, record-rows}
 use Rattle.passes.specs.Inner.Passes.{PassAt}
-use Rattle.permits.specs.Inner.Uses.{declared-field, kinds-of, ByArray, permitted, use-rows}
+use Rattle.permits.specs.Inner.Uses.{declared-field, kinds-of, sides-of, Sides, ByArray, permitted, use-rows}
 use Rattle.marks.specs.Inner.Marks.{Tables}
 use Rattle.marks.proofs.Walks.{same-side}
 use Rattle.passes.proofs.Records.{facts, arrays-low, declaration-kind, declaration-array, other-kind, other-array, other-side}
@@ -43,6 +42,11 @@ kind-in f r n a = declared-field (λ x. x .kind) f r n a
 
 abbrev side-in : List ℕ → ℕ → ℕ → ℕ → ℕ
 side-in f r n a = declared-field (λ x. x .side) f r n a
+
+-- before the first declaration no array has one
+pub none-declared : (field : Fields → ℕ) (f : List ℕ) (r : ℕ) (l : List ℕ) → l ≡ replicate 32 0 → l ≡ table (declared-field field f r 0) 32
+unfolding table declared-field
+none-declared field f r l e = e
 
 module _ (f : List ℕ) (r : ℕ) where
   -- an array has a kind exactly if it is declared
@@ -114,7 +118,7 @@ module _ (f : List ℕ) (e : Extent) (p : PassAt f e) where
     stored field l el = rw (el, add-one) (set-table _ _ 32 (x .array) (field x) (rw ex (omega (arith, declaration-array f e p i h .1, arrays-low f e p))) (rw (← ex, eq-eqb (x .array) (x .array) refl)) (λ k z. rw (← ex, ne-eqb (x .array) k (λ w. z (sym w)))))
 
   -- where no array is declared twice, the entry of a declaration's array is its own
-  module _ (d : Declared) (b : ByArray f e d) where
+  module _ (sides : List ℕ) (b : Sides f e sides) where
     undeclared-at : (i : ℕ) → i < e .declarations → kind-in f (e .from) i (fields-at f (e .from + i) .array) ≡ 0
     undeclared-at i h = undeclared i h _ refl (each-passed (record-rows f (e .body)) (e .declarations) i (b .once) h)
 
@@ -128,7 +132,7 @@ module _ (f : List ℕ) (e : Extent) (p : PassAt f e) where
           rw (ne-eqb (fields-at f (e .from + n) .array) (fields-at f (e .from + i) .array) (λ same. omega (arith, rw same at (undeclared-at n (omega arith)), earlier, declaration-kind f e p i (omega arith)))) (kept field i n (omega arith) (omega arith))
     ]
 
-    pub side-kept : (i : ℕ) → i < e .declarations → getD (d .sides) (fields-at f (e .from + i) .array) 0 ≡ fields-at f (e .from + i) .side
+    pub side-kept : (i : ℕ) → i < e .declarations → getD sides (fields-at f (e .from + i) .array) 0 ≡ fields-at f (e .from + i) .side
     side-kept i h =
         let a = fields-at f (e .from + i) .array in
         let low : a < 32 = omega (arith, declaration-array f e p i h .1, arrays-low f e p) in
@@ -144,7 +148,7 @@ module _ (f : List ℕ) (e : Extent) (p : PassAt f e) where
         go false h = h
 
     -- the first cells that opening found, and the sides by array
-    pub tables : (starts : List ℕ) → starts ≡ found f .«array_starts» → Tables f starts (d .sides)
+    pub tables : (starts : List ℕ) → starts ≡ found f .«array_starts» → Tables f starts sides
     tables starts es = record {
       starts-are = λ a h. rw es (array-start f (found f) refl (facts f e p .bounds) a h);
       arrays-low = arrays-low f e p;
@@ -153,7 +157,7 @@ module _ (f : List ℕ) (e : Extent) (p : PassAt f e) where
     }
 
   -- a read or write with the fields x, where no array is declared twice
-  module _ (d : Declared) (b : ByArray f e d) (x : Fields) (low : x .side < 2) where
+  module _ (sides : List ℕ) (b : Sides f e sides) (x : Fields) (low : x .side < 2) where
     kind-at : ℕ
     kind-at = kind-in f (e .from) (e .declarations) (x .array)
 
@@ -168,7 +172,7 @@ module _ (f : List ℕ) (e : Extent) (p : PassAt f e) where
         each-one : (i : ℕ) → i < e .declarations → (fits (declared f (e .from) i .mode) ≡ permitting x (fields-at f (e .from + i) .kind)) × (fields-at f (e .from + i) .side < 2) × (kind-in f (e .from) i (fields-at f (e .from + i) .array) ≡ 0)
         each-one i h =
             let k = declaration-kind f e p i h in
-            (m _ (k .0) (k .1), declaration-array f e p i h .0, undeclared-at d b i h)
+            (m _ (k .0) (k .1), declaration-array f e p i h .0, undeclared-at sides b i h)
 
     permits-is : 1 ≤ x .kind → x .kind ≤ 2 → permits (pass-at f (e .body) .declarations) (action-of x) ≡ permitted x kind-at side-at
     unfolding action-of
@@ -178,19 +182,19 @@ module _ (f : List ℕ) (e : Extent) (p : PassAt f e) where
     ]
 
   -- record i after the declarations: its numbers by the declaration of its array
-  module _ (i : ℕ) (h : e .declarations ≤ i) (l : i < e .records) (x : Fields) (ex : x ≡ fields-at f (e .from + i)) (d : Declared) (b : ByArray f e d) where
+  module _ (i : ℕ) (h : e .declarations ≤ i) (l : i < e .records) (x : Fields) (ex : x ≡ fields-at f (e .from + i)) (kinds sides : List ℕ) (b : ByArray f e kinds sides) where
     pub array-low : x .array < 32
     array-low = rw ex (omega (arith, other-array f e p i h l, arrays-low f e p))
 
-    condition : (between 1 2 (x .kind) && not (permitted x (getD (d .kinds) (x .array) 0) (getD (d .sides) (x .array) 0))) ≡ (between 1 2 (x .kind) && not (permits (pass-at f (e .body) .declarations) (action-of x)))
+    condition : (between 1 2 (x .kind) && not (permitted x (getD kinds (x .array) 0) (getD sides (x .array) 0))) ≡ (between 1 2 (x .kind) && not (permits (pass-at f (e .body) .declarations) (action-of x)))
     unfolding kind-at side-at
     condition = elim (decLt 2 (x .kind)) [
       | yes k ↦ rw (out-of-range 1 2 (x .kind) (λ u v. omega arith))
       | no k ↦
           let low : x .side < 2 = rw ex (other-side f e p i h l (rw (← ex) (omega arith))) in
-          rw (b .kinds-are, b .sides-are, getD-table (kind-in f (e .from) (e .declarations)) 32 (x .array) 0 array-low, getD-table (side-in f (e .from) (e .declarations)) 32 (x .array) 0 array-low, permits-is d b x low (rw ex (other-kind f e p i h l .0)) (omega arith))
+          rw (b .kinds-are, b .by-side .sides-are, getD-table (kind-in f (e .from) (e .declarations)) 32 (x .array) 0 array-low, getD-table (side-in f (e .from) (e .declarations)) 32 (x .array) 0 array-low, permits-is sides (b .by-side) x low (rw ex (other-kind f e p i h l .0)) (omega arith))
     ]
 
-    pub uses-are : use-rows (e .from + i) x (getD (d .kinds) (x .array) 0) (getD (d .sides) (x .array) 0) ≡ record-rows f (e .body) i
+    pub uses-are : use-rows (e .from + i) x (getD kinds (x .array) 0) (getD sides (x .array) 0) ≡ record-rows f (e .body) i
     unfolding use-rows record-rows
     uses-are = rw (condition, le-ltb i (declarations-in f (e .body)) (rw (← p .declarations-are) h), ← p .from-is, ex)

@@ -1,6 +1,7 @@
 // Numbers 12 to 14: the declarations of a pass, and its records against them.
 ghost use mathlib.Core.Path.{_≡_};
 ghost use Prim.Native.Nat.{_<_};
+ghost use lib.ListN.{replicate};
 ghost use Rattle.model.specs.Rows.{first, each};
 ghost use Rattle.reading.specs.Bytes.{records-in, declarations-in};
 ghost use Rattle.passes.specs.Inner.Passes.{PassAt};
@@ -19,43 +20,30 @@ use reading::kinds::W;
 use reading::kinds::WRITE;
 use reading::record_at;
 
-// What the declarations of a pass give: number 12, or kind and side of each array's declaration, 0 and 0 where it has none.
-pub struct Declared {
-    pub verdict: Verdict,
-    pub kinds: [u8; NAMES],
-    pub sides: [u8; NAMES],
-}
-
-// Number 12, and the declarations by array.
-pub fn declarations(plan: &[u8], e: Extent) -> Declared
-    requires { ⌜ PassAt (now plan) e ⌝ }
-    ensures verdict { λ d. ⌜ d .verdict ≡ first (each (declarations-in (now (plan .entry)) (e .body)) (record-rows (now (plan .entry)) (e .body))) ⌝ }
-    ensures found { λ d. ⌜ (d .verdict ≡ Verdict.Accepted → ByArray (now (plan .entry)) e d) ⌝ }
+// Number 12, and the declarations by array: kind and side of each array's declaration, 0 and 0 where it has none.
+pub fn declarations(
+    plan: &[u8],
+    e: Extent,
+    kinds: &mut [u8; NAMES],
+    sides: &mut [u8; NAMES],
+) -> Verdict
+    requires { ⌜ PassAt (now plan) e × (now kinds ≡ replicate 32 0) × (now sides ≡ replicate 32 0) ⌝ }
+    ensures verdict { λ v. ⌜ v ≡ first (each (declarations-in (now (plan .entry)) (e .body)) (record-rows (now (plan .entry)) (e .body))) ⌝ }
+    ensures found { λ v. ⌜ (v ≡ Verdict.Accepted → ByArray (now (plan .entry)) e (now (kinds .exit)) (now (sides .exit))) ⌝ }
 {
-    let bodies = e.bodies;
-    let mut kinds = [0u8; NAMES];
-    let mut sides = [0u8; NAMES];
     let mut i: usize = 0;
     while i < e.declarations {
         let r = e.from + i;
-        let x = record_at(plan, bodies, r);
+        let x = record_at(plan, e.bodies, r);
         let a = x.array as usize;
         if kinds[a] != 0 {
-            return Declared {
-                verdict: Verdict::Refused(12, r as u16),
-                kinds: kinds,
-                sides: sides,
-            };
+            return Verdict::Refused(12, r as u16);
         }
         kinds[a] = x.kind;
         sides[a] = x.side;
         i += 1;
     }
-    Declared {
-        verdict: Verdict::Accepted,
-        kinds: kinds,
-        sides: sides,
-    }
+    Verdict::Accepted
 }
 
 // Whether a read or write with the fields x is declared, where the declaration of its array has this kind and this side.
@@ -82,18 +70,15 @@ pub fn use_tests(r: usize, x: Fields, kind: u8, side: u8) -> Verdict
     Verdict::Accepted
 }
 
-// Numbers 13 and 14 of the records after the declarations d.
-pub fn uses(plan: &[u8], e: Extent, d: Declared) -> Verdict
-    requires { ⌜ PassAt (now plan) e × ByArray (now plan) e d ⌝ }
+// Numbers 13 and 14 of the records after the declarations, of which these are the kinds and the sides by array.
+pub fn uses(plan: &[u8], e: Extent, kinds: &[u8; NAMES], sides: &[u8; NAMES]) -> Verdict
+    requires { ⌜ PassAt (now plan) e × ByArray (now plan) e (now kinds) (now sides) ⌝ }
     ensures { λ v. ⌜ v ≡ first (each (records-in (now (plan .entry)) (e .body)) (record-rows (now (plan .entry)) (e .body))) ⌝ }
 {
-    let bodies = e.bodies;
-    let kinds = d.kinds;
-    let sides = d.sides;
     let mut i = e.declarations;
     while i < e.records {
         let r = e.from + i;
-        let x = record_at(plan, bodies, r);
+        let x = record_at(plan, e.bodies, r);
         let a = x.array as usize;
         let v = use_tests(r, x, kinds[a], sides[a]);
         let Verdict::Accepted = v else {

@@ -16,12 +16,11 @@ use Rattle.model.specs.Rows.{row}
 use Rattle.reading.specs.Bytes.{array-count, arrays-of, fields-at}
 use Rattle.format.specs.Plans.{side-of, declaration-of, pass-at}
 use Rattle.reading.proofs.Tables.{first-more}
-use Rattle.permits.specs.declared.Declared.{Declared}
 use Rattle.passes.specs.declared.Extent.{Extent}
 use Rattle.judge.specs.Judged.{all-written, w-rows}
 use Rattle.judge.specs.Inner.Unmet.{Decides}
 use Rattle.passes.specs.Inner.Passes.{PassAt}
-use Rattle.permits.specs.Inner.Uses.{ByArray}
+use Rattle.permits.specs.Inner.Uses.{Sides}
 use Rattle.marks.specs.Inner.Marks.{marked, Adds, all-marked, Tables, always, met}
 use Rattle.passes.proofs.Records.{declaration-array, others-block}
 use Rattle.permits.proofs.ByArray.{side-kept}
@@ -33,7 +32,7 @@ unfolding all-marked all-written
 all-same arrays s body l c zero h = refl
 all-same arrays s body l c (suc n) h = rw (h c (omega arith) (omega arith), all-same arrays s body l (suc c) n (λ k u v. h k (omega arith) (omega arith)))
 
-module _ (f : List ℕ) (e : Extent) (p : PassAt f e) (d : Declared) (b : ByArray f e d) (starts : List ℕ) (t : Tables f starts (d .sides)) where
+module _ (f : List ℕ) (e : Extent) (p : PassAt f e) (sides : List ℕ) (b : Sides f e sides) (starts : List ℕ) (t : Tables f starts sides) where
   module _ (i : ℕ) (h : i < e .declarations) where
     abbrev x : Fields
     x = fields-at f (e .from + i)
@@ -50,11 +49,11 @@ module _ (f : List ℕ) (e : Extent) (p : PassAt f e) (d : Declared) (b : ByArra
     starts-fit : (x .array < 32) × (getD starts (x .array) 0 ≤ getD starts (x .array + 1) 0) × (getD starts (x .array + 1) 0 ≤ 4096)
     starts-fit = (omega (arith, on-array, t .arrays-low), omega (arith, start, next), omega (arith, next, array-ends (arrays-of f) (x .array), t .cells-low))
 
-    module _ (l : List Bool) (a : Adds (replicate 4096 false) l (always f (d .sides) (e .from + e .declarations) (e .from + e .records))) where
+    module _ (l : List Bool) (a : Adds (replicate 4096 false) l (always f sides (e .from + e .declarations) (e .from + e .records))) where
       cell-is : (k : ℕ) → first-of (arrays-of f) (x .array) ≤ k → k < first-of (arrays-of f) (x .array) + length-of (arrays-of f) (x .array) → marked l k ≡ always-writes (arrays-of f) (side-of (x .side)) k (pass-at f (e .body) .body)
       unfolding always
       cell-is k u v =
-          let s : getD (d .sides) (x .array) 0 ≡ x .side = side-kept f e p d b i h in
+          let s : getD sides (x .array) 0 ≡ x .side = side-kept f e p sides b i h in
           rw (none-marked k, array-from (arrays-of f) (x .array) k u v, s, ← others-block f e p) at (a .marks k (omega (arith, array-ends (arrays-of f) (x .array), t .cells-low)))
 
       all-is : all-marked l (getD starts (x .array) 0) (getD starts (x .array + 1) 0 - getD starts (x .array) 0) ≡ all-written (arrays-of f) (side-of (x .side)) (pass-at f (e .body) .body) (first-of (arrays-of f) (x .array)) (length-of (arrays-of f) (x .array))
@@ -70,5 +69,5 @@ module _ (f : List ℕ) (e : Extent) (p : PassAt f e) (d : Declared) (b : ByArra
           go true all = refl
           go false all = refl
 
-  pub decides : (l : List Bool) → Adds (replicate 4096 false) l (always f (d .sides) (e .from + e .declarations) (e .from + e .records)) → Decides f starts l e
+  pub decides : (l : List Bool) → Adds (replicate 4096 false) l (always f sides (e .from + e .declarations) (e .from + e .records)) → Decides f starts l e
   decides l a = record { fit = λ i h. starts-fit i h; rows = λ i h. w-row i h l a }

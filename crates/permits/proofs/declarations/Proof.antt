@@ -3,64 +3,61 @@
 use mathlib.Core.Path.{_≡_, refl}
 use Prim.Native.Nat.{_-_, _≤_, _<_}
 use native.Mathlib.Omega.{arith}
-use lib.ListN.{length}
 use Rattle.model.specs.declared.Verdict.the-variants.{Accepted}
 use Rattle.model.specs.Rows.{first, each}
-use Rattle.reading.specs.Bytes.{table}
 use Rattle.model.proofs.Rows.{refused, each-none, each-more, each-stop}
-use Rattle.permits.specs.Permits.{record-rows}
-use Rattle.permits.specs.Inner.Uses.{declared-field, kinds-of, sides-of}
 use Rattle.passes.proofs.Records.{arrays-low, declared-low, records-low, records-inside, declaration-array}
-use Rattle.permits.proofs.ByArray.{twice, once, stored}
+use Rattle.permits.specs.Permits.{record-rows}
+use Rattle.permits.specs.Inner.Uses.{kinds-of, sides-of}
+use Rattle.permits.proofs.ByArray.{none-declared, twice, once, stored}
 use borrow.Author.Needs.{needs}
 use Rattle.permits.proofs.declarations.Statement.{statement}
 use Rattle.permits.proofs.declarations.Tie as tie
 
 abbrev Inv-loop : tie.InvT-loop
-Inv-loop plan e bodies kinds₀ sides₀ i₀ kinds sides i =
+Inv-loop plan e kinds₀ sides₀ i₀ kinds sides i =
     (i ≤ e .declarations)
     × (Accepted ≡ first (each i (record-rows plan (e .body))))
-    × (length kinds ≡ 32)
-    × (length sides ≡ 32)
     × (kinds ≡ kinds-of plan (e .from) i)
     × (sides ≡ sides-of plan (e .from) i)
 
 abbrev μ-loop : tie.MeasureT-loop
-μ-loop plan e bodies kinds₀ sides₀ i₀ kinds sides i = e .declarations - i
+μ-loop plan e kinds₀ sides₀ i₀ kinds sides i = e .declarations - i
 
 -- the array of declaration i is below 32
-below : (c : tie.After-struct-known3 Inv-loop μ-loop) → c .before .record-at .result .array < 32
-below c = rw (c .before .record-at .ensures) (omega (arith, declaration-array _ _ (c .before .before .before .before .before .before .before .pre) _ (c .before .before .before .if1 .taken) .1, arrays-low _ _ (c .before .before .before .before .before .before .before .pre)))
+below : (c : tie.After-record-at Inv-loop μ-loop) → c .record-at .result .array < 32
+below c = let p = c .before .before .before .before .before .before .pre .0 in rw (c .record-at .ensures) (omega (arith, declaration-array _ _ p _ (c .before .before .if1 .taken) .1, arrays-low _ _ p))
 
 loop-holds : tie.Need-loop-holds Inv-loop μ-loop
-unfolding table declared-field
-loop-holds c = (search needs, each-none _, search needs, search needs, refl, refl)
+loop-holds c = let w = c .before .pre in (search needs, each-none _, none-declared _ _ _ _ (w .1), none-declared _ _ _ _ (w .2))
 
 add-r : tie.Need-add-r Inv-loop μ-loop
-add-r c = omega (arith, records-low _ _ (c .before .before .before .before .before .pre), declared-low _ _ (c .before .before .before .before .before .pre))
+add-r c = let p = c .before .before .before .before .before .pre .0 in omega (arith, records-low _ _ p, declared-low _ _ p)
 
 record-at-requires : tie.Need-record-at-requires Inv-loop μ-loop
-record-at-requires c κs = let w = records-inside _ _ (c .before .before .before .before .before .pre) in (w .place, omega (arith, declared-low _ _ (c .before .before .before .before .before .pre)))
+record-at-requires c κs = let p = c .before .before .before .before .before .pre .0 in let w = records-inside _ _ p in (w .place, omega (arith, declared-low _ _ p))
 
 cast-a : tie.Need-cast-a Inv-loop μ-loop
 cast-a c = search needs
 
-array-read-if2 : tie.Need-array-read-if2 Inv-loop μ-loop
-array-read-if2 c = omega (arith, below c, c .before .before .before .before .before .loop .inv .2)
+element-copy-out-if2 : tie.Need-element-copy-out-if2 Inv-loop μ-loop
+element-copy-out-if2 c = omega (arith, below (c .before))
 
-cast-t14 : tie.Need-cast-t14 Inv-loop μ-loop
-cast-t14 c = omega (arith, records-low _ _ (c .before .before .before .before .before .before .before .before .pre), declared-low _ _ (c .before .before .before .before .before .before .before .before .pre))
+cast-t13 : tie.Need-cast-t13 Inv-loop μ-loop
+cast-t13 c = let p = c .before .before .before .before .before .before .before .before .before .pre .0 in omega (arith, records-low _ _ p, declared-low _ _ p)
 
 returns : tie.Need-returns Inv-loop μ-loop
 returns c =
-    let l = c .before .before .before .before .before .before .loop in
-    (each-stop _ _ _ _ (refused refl) (l .inv .1) (twice _ _ (c .before .before .before .before .before .before .before .before .pre) _ (c .before .before .before .before .if1 .taken) _ (c .before .before .record-at .ensures) _ (l .inv .4) (c .if2 .taken)) (rw (← c .before .before .before .before .before .before .before .before .pre .declarations-are) (c .before .before .before .before .if1 .taken)), (λ a. absurd (refused refl a)))
+    let l = c .before .before .before .before .before .before .before .loop in
+    let p = c .before .before .before .before .before .before .before .before .before .pre .0 in
+    let h = c .before .before .before .before .before .if1 .taken in
+    (each-stop _ _ _ _ (refused refl) (l .inv .1) (twice _ _ p _ h _ (c .before .before .before .record-at .ensures) _ (l .inv .2) (c .if2 .taken)) (rw (← p .declarations-are) h), (λ a. absurd (refused refl a)))
 
-array-write-kinds : tie.Need-array-write-kinds Inv-loop μ-loop
-array-write-kinds c = omega (arith, below (c .before), c .before .before .before .before .before .before .loop .inv .2)
+element-write-kinds : tie.Need-element-write-kinds Inv-loop μ-loop
+element-write-kinds c = omega (arith, below (c .before .before .before))
 
-array-write-sides : tie.Need-array-write-sides Inv-loop μ-loop
-array-write-sides c = omega (arith, below (c .before), c .before .before .before .before .before .before .loop .inv .3)
+element-write-sides : tie.Need-element-write-sides Inv-loop μ-loop
+element-write-sides c = omega (arith, below (c .before .before .before))
 
 add-i : tie.Need-add-i Inv-loop μ-loop
 add-i c = search needs
@@ -70,17 +67,18 @@ loop-less c = search needs
 
 loop-again : tie.Need-loop-again Inv-loop μ-loop
 loop-again c =
-    let l = c .before .before .before .before .before .before .loop in
-    let w = c .before .before .before .before .before .before .before .before .pre in
-    let h = c .before .before .before .before .if1 .taken in
-    let x = c .before .before .record-at .ensures in
-    (omega arith, each-more _ _ (l .inv .1) (once _ _ w _ h _ x _ (l .inv .4) (c .if2 .left)), search needs, search needs, stored _ _ w _ h _ x (λ y. y .kind) _ (l .inv .4), stored _ _ w _ h _ x (λ y. y .side) _ (l .inv .5))
+    let l = c .before .before .before .before .before .before .before .loop in
+    let p = c .before .before .before .before .before .before .before .before .before .pre .0 in
+    let h = c .before .before .before .before .before .if1 .taken in
+    let x = c .before .before .before .record-at .ensures in
+    (omega arith, each-more _ _ (l .inv .1) (once _ _ p _ h _ x _ (l .inv .2) (c .if2 .left)), stored _ _ p _ h _ x (λ y. y .kind) _ (l .inv .2), stored _ _ p _ h _ x (λ y. y .side) _ (l .inv .3))
 
 returns-2 : tie.Need-returns-2 Inv-loop μ-loop
 returns-2 c =
     let l = c .before .before .loop in
-    let n : l .i ≡ c .before .before .before .before .args .e .declarations = omega arith in
-    (rw (n, c .before .before .before .before .pre .declarations-are) at (l .inv .1), (λ a. record { once = rw n at (l .inv .1); kinds-are = rw n at (l .inv .4); sides-are = rw n at (l .inv .5) }))
+    let u = c .before .before .before .before in
+    let n : l .i ≡ u .args .e .declarations = omega arith in
+    (rw (n, u .pre .0 .declarations-are) at (l .inv .1), (λ a. record { by-side = record { once = rw n at (l .inv .1); sides-are = rw n at (l .inv .3) }; kinds-are = rw n at (l .inv .2) }))
 
 pub declarations-spec : {M : Type 1} → statement M
 declarations-spec =
@@ -92,11 +90,11 @@ declarations-spec =
     add-r
     record-at-requires
     cast-a
-    array-read-if2
-    cast-t14
+    element-copy-out-if2
+    cast-t13
     returns
-    array-write-kinds
-    array-write-sides
+    element-write-kinds
+    element-write-sides
     add-i
     loop-less
     loop-again

@@ -9,7 +9,6 @@ use Rattle.reading.specs.declared.Fields.{Fields}
 use Rattle.model.specs.Rows.{Row, row, first, each}
 use Rattle.reading.specs.Bytes.{table, fields-at, between}
 use Rattle.passes.specs.declared.Extent.{Extent}
-use Rattle.permits.specs.declared.Declared.{Declared}
 use Rattle.permits.specs.Permits.{record-rows}
 
 -- a field of the last declaration of array a among the n declarations from record r on; 0 where there is none
@@ -25,11 +24,15 @@ kinds-of f r n = table (declared-field (λ x. x .kind) f r n) 32
 abbrev pub sides-of : List ℕ → ℕ → ℕ → List ℕ
 sides-of f r n = table (declared-field (λ x. x .side) f r n) 32
 
--- no array of the pass is declared twice, and these are its declarations by array
-pub record ByArray (f : List ℕ) (e : Extent) (d : Declared) : Type 0 where
+-- no array of the pass is declared twice, and these are the sides of its declarations by array
+pub record Sides (f : List ℕ) (e : Extent) (sides : List ℕ) : Type 0 where
   pub once : Accepted ≡ first (each (e .declarations) (record-rows f (e .body)))
-  pub kinds-are : d .kinds ≡ kinds-of f (e .from) (e .declarations)
-  pub sides-are : d .sides ≡ sides-of f (e .from) (e .declarations)
+  pub sides-are : sides ≡ sides-of f (e .from) (e .declarations)
+
+-- and these are their kinds
+pub record ByArray (f : List ℕ) (e : Extent) (kinds sides : List ℕ) : Type 0 where
+  pub by-side : Sides f e sides
+  pub kinds-are : kinds ≡ kinds-of f (e .from) (e .declarations)
 
 -- whether a read or write with the fields x is declared, where the declaration of its array has this kind and this side
 unfoldable pub permitted : Fields → ℕ → ℕ → Bool
