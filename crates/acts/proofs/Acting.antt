@@ -16,17 +16,12 @@ use Rattle.model.proofs.Unmet.{none-unmet}
 use Rattle.acts.specs.declared.Stored.{Stored}
 use Rattle.acts.specs.declared.Acted.{Acted}
 use Rattle.acts.specs.declared.Acted.the-variants.{Done, Unmet}
-use Rattle.acts.specs.Memories.{number-of}
-use Rattle.acts.specs.Flags.{mask}
-use Rattle.acts.specs.Inner.Acting.{among, FirstStale, Changed, Same, Low, CellsAt, ArrayAt, Holds, BothSet, BothSetAs, FollowsAs, MovesCells}
-use Rattle.acts.proofs.Cells.{changed-same, same-all}
-use Rattle.acts.proofs.Masks.{mask-same}
+use Rattle.memories.specs.Memories.{number-of}
+use Rattle.memories.specs.Flags.{mask}
+use Rattle.memories.specs.Inner.Ranges.{among, FirstStale, Changed}
+use Rattle.memories.proofs.Masks.{mask-same}
+use Rattle.acts.specs.Inner.Acting.{Low, CellsAt, ArrayAt, Holds, BothSet, BothSetAs, FollowsAs, MovesCells}
 use Rattle.acts.proofs.Stale.{range-ends, range-cells, array-cells-end, array-cells, Sees, all-fine, stale-at}
-
--- a copy, done or unmet, leaves the cells past its own
-pub moves-same : (from to : ℕ) (s : Stored) (own others latest : List ℕ) (r : Acted) (own′ : List ℕ) → MovesCells from to s own others latest r own′ → Same to own own′
-moves-same from to s own others latest (Done s′) own′ m = changed-same (m .1)
-moves-same from to s own others latest (Unmet c) own′ m = rw (m .2) (same-all to own)
 
 set-or : (b f : Bool) → cond b true f ≡ (b || f)
 set-or true f = refl

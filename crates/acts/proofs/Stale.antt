@@ -14,8 +14,9 @@ use Rattle.model.specs.Runs.{lowest-unmet}
 use Rattle.model.proofs.Booleans.{and-out, and-in}
 use Rattle.model.proofs.Numbering.{in-array, array-from, array-ends, within-range}
 use Rattle.model.proofs.Unmet.{unmet-first, none-unmet}
-use Rattle.acts.specs.Memories.{number-of}
-use Rattle.acts.specs.Inner.Acting.{among, FirstStale, CellsAt, ArrayAt}
+use Rattle.memories.specs.Memories.{number-of}
+use Rattle.memories.specs.Inner.Ranges.{among, FirstStale}
+use Rattle.acts.specs.Inner.Acting.{CellsAt, ArrayAt}
 
 pub among-true : (from to c : ℕ) → from ≤ c → c < to → among from to c ≡ true
 among-true from to c h k = and-in (leb from c) (ltb c to) (le-leb from c h) (lt-ltb c to k)

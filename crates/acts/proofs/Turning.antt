@@ -1,75 +1,58 @@
--- A record acts by its kind on the memories of its side: the law of each kind, and the turn to the other side.
-use Prim.Native.Nat.{ℕ, _≤_}
-use mathlib.Core.Path.{_≡_, refl}
-use mathlib.Core.Bool.{true, false}
+-- A record acts on the memories of its side: the laws of each kind hold seen from that side, and so from the host; then by the record's kind.
+use Prim.Native.Nat.{ℕ, _+_, _-_, _≤_, _<_}
+use mathlib.Core.Path.{_≡_, refl, ap}
+use mathlib.Core.Bool.{Bool, true, false, cond, not, true≢false}
 use mathlib.Core.List.{List}
+use mathlib.Core.Option.{some}
 use native.Mathlib.Omega.{arith}
 use lib.Dec.{eqb}
+use lib.ListN.{length, getD}
 use borrow.Author.Tests.{eq-eqb, ne-eqb}
 use Rattle.model.specs.Sides.{Side, host, card, other, Arrays, Cells}
-use Rattle.model.specs.Effects.{Action, read, write, need, mark, State}
-use Rattle.model.specs.Runs.{Event}
+use Rattle.model.specs.Effects.{Action, read, write, copy, need, mark, State}
+use Rattle.model.specs.Runs.{Event, lowest-unmet}
 use Rattle.reading.specs.declared.Fields.{Fields}
 use Rattle.format.specs.Plans.{side-of, action-of}
 use Rattle.format.proofs.Acts.{by-kind}
+use Rattle.memories.specs.Flags.{mask}
+use Rattle.memories.specs.Inner.Ranges.{FirstStale, Changed, Same, of-side, ChangedOn}
+use Rattle.memories.proofs.Cells.{changed-same, same-all}
 use Rattle.acts.specs.declared.Stored.{Stored}
 use Rattle.acts.specs.declared.Acted.{Acted}
 use Rattle.acts.specs.declared.Acted.the-variants.{Done, Unmet}
-use Rattle.acts.specs.Inner.Acting.{Rooms, Low, CellsAt, ArrayAt, Spans, Holds, swapped, turned-as, FollowsAs, Follows, ActsAs, Acts, MovesCells}
-use Rattle.acts.proofs.Acting.{copy-follows}
+use Rattle.acts.specs.Inner.Acting.{Low, CellsAt, ArrayAt, Spans, Holds, BothSet, BothSetAs, FollowsAs, ActsAs, Acts, side-on, flags-on, MovesCells, MovesOn}
+use Rattle.acts.proofs.Stale.{none-stale}
+use Rattle.acts.proofs.Acting.{read-done, read-unmet, write-done, copy-follows, need-idle, need-follows, mark-done}
 
--- what a record with the fields x, whose cells are `from` up to `to`, does seen from its side
-abbrev pub ActsHere : Fields → ℕ → ℕ → Stored → List ℕ → List ℕ → List ℕ → Acted → List ℕ → List ℕ → Type 0
-ActsHere x from to s own others latest r own′ latest′ =
-    (arrays : Arrays) (t : Side) → t ≡ side-of (x .side) → Spans arrays (action-of x) from to → Follows arrays (action-of x) t s own others latest r own′ latest′
+-- what is stored, seen from the other side
+abbrev swapped : Stored → Stored
+swapped s = record { flags = s .«other_flags»; «other_flags» = s .flags; reads = s .reads; writes = s .writes; moved = s .moved }
 
-module _ (x : Fields) (from to : ℕ) (s : Stored) (own others latest : List ℕ) (r : Acted) where
-  -- the cells that it names
-  abbrev named : Cells
-  named = record { array = x .array; p = x .p; q = x .q }
+-- and seen from a side
+abbrev seen : Bool → Stored → Stored
+seen true s = swapped s
+seen false s = s
 
-  abbrev As : List ℕ → List ℕ → Action → Type 0
-  As own′ latest′ y = (arrays : Arrays) (t : Side) → t ≡ side-of (x .side) → Spans arrays y from to → Follows arrays y t s own others latest r own′ latest′
+abbrev seen-as : Bool → Acted → Acted
+seen-as b (Done s) = Done (seen b s)
+seen-as b (Unmet c) = Unmet c
 
-  pub here-read : x .kind ≡ 1 →
-      ((arrays : Arrays) (t : Side) (z : Cells) (others : List ℕ) → CellsAt arrays z from to → Follows arrays (read t z) t s own others latest r own latest) →
-      ActsHere x from to s own others latest r own latest
-  here-read e p =
-      by-kind x (omega arith, omega arith) (As own latest)
-      (λ _ arrays t q k. rw q (p arrays (side-of (x .side)) named others k))
-      (λ z. absurd (omega arith)) (λ z. absurd (omega arith)) (λ z. absurd (omega arith)) (λ z. absurd (omega arith))
+low-seen : (b : Bool) {s : Stored} → Low s → Low (seen b s)
+low-seen true low = record { reads = low .reads; writes = low .writes; moved = low .moved }
+low-seen false low = low
 
-  pub here-write : x .kind ≡ 2 → (own′ latest′ : List ℕ) →
-      ((arrays : Arrays) (t : Side) (z : Cells) (others : List ℕ) → CellsAt arrays z from to → Follows arrays (write t z) t s own others latest r own′ latest′) →
-      ActsHere x from to s own others latest r own′ latest′
-  here-write e own′ latest′ p =
-      by-kind x (omega arith, omega arith) (As own′ latest′) (λ z. absurd (omega arith))
-      (λ _ arrays t q k. rw q (p arrays (side-of (x .side)) named others k))
-      (λ z. absurd (omega arith)) (λ z. absurd (omega arith)) (λ z. absurd (omega arith))
+moves-seen : (b : Bool) (from to : ℕ) (s : Stored) (own others latest own′ : List ℕ) (r : Acted) → MovesCells from to s own others latest r own′ → MovesCells from to (seen b s) own others latest (seen-as b r) own′
+moves-seen true from to s own others latest own′ (Done s′) (f, a, e) = (f, a, ap swapped e)
+moves-seen true from to s own others latest own′ (Unmet c) m = m
+moves-seen false from to s own others latest own′ (Done s′) m = m
+moves-seen false from to s own others latest own′ (Unmet c) m = m
 
-  pub here-move : (1 ≤ x .kind) × (x .kind ≤ 5) → (x .kind ≡ 1 → ⊥) → (x .kind ≡ 2 → ⊥) → (x .kind ≡ 5 → ⊥) → (own′ : List ℕ) → Low s → (eqb (x .kind) 4 ≡ false → MovesCells from to s own others latest r own′) →
-      (eqb (x .kind) 4 ≡ true → (arrays : Arrays) (t : Side) → ArrayAt arrays (x .array) from to → Follows arrays (need t (x .array)) t s own others latest r own′ latest) →
-      ActsHere x from to s own others latest r own′ latest
-  here-move b n1 n2 n5 own′ low m p =
-      by-kind x b (As own′ latest) (λ z. absurd (n1 z)) (λ z. absurd (n2 z))
-      (λ e arrays t q k. rw q (λ σ l h. copy-follows h k low r own′ (m (ne-eqb (x .kind) 4 (λ z. omega arith)))))
-      (λ e arrays t q k. rw q (p (eq-eqb (x .kind) 4 e) arrays (side-of (x .side)) k))
-      (λ z. absurd (n5 z))
-
-  pub here-mark : x .kind ≡ 5 →
-      ((arrays : Arrays) (t : Side) (from to : ℕ) (own others latest : List ℕ) → ArrayAt arrays (x .array) from to → Follows arrays (mark t (x .array)) t s own others latest r own latest) →
-      ActsHere x from to s own others latest r own latest
-  here-mark e p =
-      by-kind x (omega arith, omega arith) (As own latest)
-      (λ z. absurd (omega arith)) (λ z. absurd (omega arith)) (λ z. absurd (omega arith)) (λ z. absurd (omega arith))
-      (λ _ arrays t q k. rw q (p arrays (side-of (x .side)) from to own others latest k))
-
--- what a record asks for, seen from the other side
-pub low-swapped : {s s′ : Stored} → s′ ≡ swapped s → Low s → Low s′
-low-swapped e low = rw e (record { reads = low .reads; writes = low .writes; moved = low .moved })
-
-pub rooms-swapped : {from to : ℕ} {own others latest : List ℕ} → Rooms from to own others latest → Rooms from to others own latest
-rooms-swapped h = record { few = h .few; in-own = h .in-others; in-others = h .in-own; in-latest = h .in-latest }
+both-seen : (b : Bool) (a : ℕ) (r q : Acted) → BothSetAs r a q → BothSetAs (seen-as b r) a (seen-as b q)
+both-seen true a (Done s) (Done s′) m = record { own = m .others; others = m .own; reads = m .reads; writes = m .writes; moved = m .moved }
+both-seen false a (Done s) (Done s′) m = m
+both-seen b a (Done s) (Unmet c) m = absurd m
+both-seen b a (Unmet c) (Done s) m = absurd m
+both-seen b a (Unmet c) (Unmet c′) m = m
 
 -- the same state seen from the other side
 seen-from : (arrays : Arrays) (t u : Side) (s : Stored) (own others latest : List ℕ) (σ : State) (l : List Event) → other t ≡ u → other u ≡ t →
@@ -90,24 +73,137 @@ seen-from arrays t u s own others latest σ l e f h = record {
   past = h .past;
 }
 
--- both sides' memories, where the record's side is the host
-module _ (arrays : Arrays) (y : Action) (σ : State) (l : List Event) (own others latest : List ℕ) where
-  on-host : (r : Acted) (own′ latest′ : List ℕ) → FollowsAs arrays y host σ l own others latest r own′ latest′ → ActsAs arrays y σ l own others latest r own′ others latest′
-  on-host (Done s) own′ latest′ f = f
-  on-host (Unmet c) own′ latest′ (e, f, g) = (e, f, refl, g)
+-- what a record did, seen from its side, is what it did, where the other side is as it was
+module _ (arrays : Arrays) (y : Action) (σ : State) (l : List Event) (hs cs latest : List ℕ) where
+  acts-on : (b : Bool) (r : Acted) (hs′ cs′ latest′ : List ℕ) → of-side b cs′ hs′ ≡ of-side b cs hs →
+      FollowsAs arrays y (side-on b) σ l (of-side b hs cs) (of-side b cs hs) latest (seen-as b r) (of-side b hs′ cs′) latest′ → ActsAs arrays y σ l hs cs latest r hs′ cs′ latest′
+  acts-on true (Done s) hs′ cs′ latest′ q (e, h) = (e, rw q (seen-from arrays card host (swapped s) cs′ hs latest′ _ _ refl refl h))
+  acts-on true (Unmet c) hs′ cs′ latest′ q (e, f, g) = (e, q, f, g)
+  acts-on false (Done s) hs′ cs′ latest′ q (e, h) = (e, rw q h)
+  acts-on false (Unmet c) hs′ cs′ latest′ q (e, f, g) = (e, f, q, g)
 
-  -- and where it is the card
-  on-card : (r : Acted) (others′ latest′ : List ℕ) → FollowsAs arrays y card σ l others own latest r others′ latest′ → ActsAs arrays y σ l own others latest (turned-as r) own others′ latest′
-  on-card (Done s) others′ latest′ (e, h) = (e, seen-from arrays card host s others′ own latest′ _ _ refl refl h)
-  on-card (Unmet c) others′ latest′ (e, f, g) = (e, refl, f, g)
+module _ {arrays : Arrays} {s : Stored} {hs cs latest : List ℕ} {σ : State} {l : List Event} (h : Holds arrays host s hs cs latest σ l) where
+  holds-on : (b : Bool) → Holds arrays (side-on b) (seen b s) (of-side b hs cs) (of-side b cs hs) latest σ l
+  holds-on true = seen-from arrays host card s hs cs latest σ l refl refl h
+  holds-on false = h
 
-module _ (x : Fields) (from to : ℕ) (s : Stored) (own others latest : List ℕ) where
-  pub act-host : x .side ≡ 0 → (r : Acted) (own′ latest′ : List ℕ) → ActsHere x from to s own others latest r own′ latest′ →
-      (arrays : Arrays) → Spans arrays (action-of x) from to → Acts arrays (action-of x) s own others latest r own′ others latest′
-  act-host e r own′ latest′ p arrays k σ l h = on-host arrays (action-of x) σ l own others latest r own′ latest′ (p arrays host (rw (eq-eqb (x .side) 0 e)) k σ l h)
+  -- the flags of a side
+  pub flags-held : (b : Bool) → flags-on b s ≡ mask (length arrays) (σ .flag (side-on b))
+  flags-held true = h .others-flags
+  flags-held false = h .own-flags
 
-  pub act-card : (x .side ≡ 0 → ⊥) → (r : Acted) (others′ latest′ : List ℕ) {s′ : Stored} {q : Acted} → s′ ≡ swapped s → q ≡ turned-as r →
-      ActsHere x from to s′ others own latest r others′ latest′ →
-      (arrays : Arrays) → Spans arrays (action-of x) from to → Acts arrays (action-of x) s own others latest q own others′ latest′
-  act-card n r others′ latest′ e f p arrays k σ l h = rw f (on-card arrays (action-of x) σ l own others latest r others′ latest′
-      (p arrays card (rw (ne-eqb (x .side) 0 n)) k σ l (rw e (seen-from arrays host card s own others latest σ l refl refl h))))
+  module _ (low : Low s) where
+    module _ {x : Cells} {from to : ℕ} (k : CellsAt arrays x from to) where
+      pub read-done-on : (b : Bool) {r : ℕ} → FirstStale (of-side b hs cs) latest from to r → to ≤ r →
+          ActsAs arrays (read (side-on b) x) σ l hs cs latest (Done (record { flags = s .flags; «other_flags» = s .«other_flags»; reads = s .reads + 1; writes = s .writes; moved = s .moved })) hs cs latest
+      read-done-on true f m = acts-on arrays (read card x) σ l hs cs latest true (Done (record { flags = s .flags; «other_flags» = s .«other_flags»; reads = s .reads + 1; writes = s .writes; moved = s .moved })) hs cs latest refl (read-done (holds-on true) k (low-seen true low) f m)
+      read-done-on false f m = acts-on arrays (read host x) σ l hs cs latest false (Done (record { flags = s .flags; «other_flags» = s .«other_flags»; reads = s .reads + 1; writes = s .writes; moved = s .moved })) hs cs latest refl (read-done h k low f m)
+
+      pub read-unmet-on : (b : Bool) {r : ℕ} → FirstStale (of-side b hs cs) latest from to r → r < to → lowest-unmet arrays (read (side-on b) x) σ ≡ some r
+      read-unmet-on b f m = read-unmet (holds-on b) k (low-seen b low) f m
+
+      pub write-done-on : (b : Bool) {hs′ cs′ latest′ : List ℕ} → ChangedOn b from to (λ c. s .writes + 1) hs cs hs′ cs′ → Changed from to (λ c. s .writes + 1) latest latest′ →
+          ActsAs arrays (write (side-on b) x) σ l hs cs latest (Done (record { flags = s .flags; «other_flags» = s .«other_flags»; reads = s .reads; writes = s .writes + 1; moved = s .moved })) hs′ cs′ latest′
+      write-done-on true {hs′} {cs′} {latest′} a b = acts-on arrays (write card x) σ l hs cs latest true (Done (record { flags = s .flags; «other_flags» = s .«other_flags»; reads = s .reads; writes = s .writes + 1; moved = s .moved })) hs′ cs′ latest′ (a .others) (write-done (holds-on true) k (a .own) b)
+      write-done-on false {hs′} {cs′} {latest′} a b = acts-on arrays (write host x) σ l hs cs latest false (Done (record { flags = s .flags; «other_flags» = s .«other_flags»; reads = s .reads; writes = s .writes + 1; moved = s .moved })) hs′ cs′ latest′ (a .others) (write-done h k (a .own) b)
+
+      pub copy-acts : (b : Bool) {hs′ cs′ : List ℕ} (r : Acted) → MovesOn b from to s hs cs latest r hs′ cs′ → ActsAs arrays (copy (side-on b) x) σ l hs cs latest r hs′ cs′ latest
+      copy-acts b {hs′} {cs′} r m = acts-on arrays (copy (side-on b) x) σ l hs cs latest b r hs′ cs′ latest (m .others)
+          (copy-follows (holds-on b) k (low-seen b low) (seen-as b r) (of-side b hs′ cs′) (moves-seen b from to s (of-side b hs cs) (of-side b cs hs) latest (of-side b hs′ cs′) r (m .moves)))
+
+    module _ {a from to : ℕ} (k : ArrayAt arrays a from to) where
+      pub need-idle-on : (b : Bool) → σ .flag (side-on b) a ≡ true → ActsAs arrays (need (side-on b) a) σ l hs cs latest (Done s) hs cs latest
+      need-idle-on b e = acts-on arrays (need (side-on b) a) σ l hs cs latest b (Done s) hs cs latest refl (need-idle (holds-on b) k e)
+
+      pub need-acts : (b : Bool) {hs′ cs′ : List ℕ} (r q : Acted) → σ .flag (side-on b) a ≡ false → MovesOn b from to s hs cs latest r hs′ cs′ → BothSetAs r a q → ActsAs arrays (need (side-on b) a) σ l hs cs latest q hs′ cs′ latest
+      need-acts b {hs′} {cs′} r q e m n = acts-on arrays (need (side-on b) a) σ l hs cs latest b q hs′ cs′ latest (m .others)
+          (need-follows (holds-on b) k (low-seen b low) e (seen-as b r) (seen-as b q) (of-side b hs′ cs′) (moves-seen b from to s (of-side b hs cs) (of-side b cs hs) latest (of-side b hs′ cs′) r (m .moves)) (both-seen b a r q n))
+
+  -- a mark
+  pub mark-card : (b : Bool) (a : ℕ) (s′ : Stored) → b ≡ true →
+      s′ .flags ≡ mask (length arrays) (λ d. cond (eqb d a) false (σ .flag host d)) → s′ .«other_flags» ≡ mask (length arrays) (λ d. cond (eqb d a) true (σ .flag card d)) →
+      s′ .reads ≡ s .reads → s′ .writes ≡ s .writes → s′ .moved ≡ s .moved → ActsAs arrays (mark (side-on b) a) σ l hs cs latest (Done s′) hs cs latest
+  mark-card true a s′ e f g i j m = acts-on arrays (mark card a) σ l hs cs latest true (Done s′) hs cs latest refl (mark-done (holds-on true) a (swapped s′) g f i j m)
+  mark-card false a s′ e f g i j m = absurd (true≢false (rw e refl))
+
+  pub mark-host : (b : Bool) (a : ℕ) (s′ : Stored) → b ≡ false →
+      s′ .flags ≡ mask (length arrays) (λ d. cond (eqb d a) true (σ .flag host d)) → s′ .«other_flags» ≡ mask (length arrays) (λ d. cond (eqb d a) false (σ .flag card d)) →
+      s′ .reads ≡ s .reads → s′ .writes ≡ s .writes → s′ .moved ≡ s .moved → ActsAs arrays (mark (side-on b) a) σ l hs cs latest (Done s′) hs cs latest
+  mark-host false a s′ e f g i j m = acts-on arrays (mark host a) σ l hs cs latest false (Done s′) hs cs latest refl (mark-done h a s′ f g i j m)
+  mark-host true a s′ e f g i j m = absurd (true≢false e)
+
+-- a copy to a side, unmet or done
+pub move-unmet : (b : Bool) (from to : ℕ) (s : Stored) (hs cs latest : List ℕ) {r : ℕ} → FirstStale (of-side (not b) hs cs) latest from to r → r < to → MovesOn b from to s hs cs latest (Unmet (record { 0 = r })) hs cs
+move-unmet true from to s hs cs latest f m = record { moves = (f, m, refl); others = refl }
+move-unmet false from to s hs cs latest f m = record { moves = (f, m, refl); others = refl }
+
+pub move-done : (b : Bool) (from to : ℕ) (s : Stored) (hs cs latest hs′ cs′ : List ℕ) {r : ℕ} → FirstStale (of-side (not b) hs cs) latest from to r → to ≤ r → ChangedOn b from to (λ c. getD (of-side b cs hs) c 0) hs cs hs′ cs′ →
+    MovesOn b from to s hs cs latest (Done (record { flags = s .flags; «other_flags» = s .«other_flags»; reads = s .reads; writes = s .writes; moved = s .moved + (to - from) })) hs′ cs′
+move-done true from to s hs cs latest hs′ cs′ f m a = record { moves = (none-stale f m, a .own, refl); others = a .others }
+move-done false from to s hs cs latest hs′ cs′ f m a = record { moves = (none-stale f m, a .own, refl); others = a .others }
+
+-- a copy, done or unmet, leaves the cells past its own on both sides
+moves-own : (from to : ℕ) (s : Stored) (own others latest : List ℕ) (r : Acted) (own′ : List ℕ) → MovesCells from to s own others latest r own′ → Same to own own′
+moves-own from to s own others latest (Done s′) own′ m = changed-same (m .1)
+moves-own from to s own others latest (Unmet c) own′ m = rw (m .2) (same-all to own)
+
+pub moves-same : (b : Bool) (from to : ℕ) (s : Stored) (hs cs latest : List ℕ) (r : Acted) (hs′ cs′ : List ℕ) → MovesOn b from to s hs cs latest r hs′ cs′ → Same to hs hs′ × Same to cs cs′
+moves-same true from to s hs cs latest r hs′ cs′ m = (rw (m .others) (same-all to hs), moves-own from to s cs hs latest r cs′ (m .moves))
+moves-same false from to s hs cs latest r hs′ cs′ m = (moves-own from to s hs cs latest r hs′ (m .moves), rw (m .others) (same-all to cs))
+
+-- a record's side
+side-same : (n : ℕ) (b : Bool) → eqb n 0 ≡ b → side-on (not b) ≡ side-of n
+side-same n true e = rw e refl
+side-same n false e = rw e refl
+
+carry : (P : Side → Type 0) {t u : Side} → t ≡ u → P t → P u
+carry P e p = rw e at p
+
+-- what a record with the fields x, whose cells are `from` up to `to`, does
+module _ (x : Fields) (from to : ℕ) (s : Stored) (hs cs latest : List ℕ) (r : Acted) where
+  abbrev on : Bool
+  on = not (eqb (x .side) 0)
+
+  -- the cells that it names
+  abbrev named : Cells
+  named = record { array = x .array; p = x .p; q = x .q }
+
+  abbrev As : List ℕ → List ℕ → List ℕ → Action → Type 0
+  As hs′ cs′ latest′ y = (arrays : Arrays) → Spans arrays y from to → Acts arrays y s hs cs latest r hs′ cs′ latest′
+
+  same : side-on on ≡ side-of (x .side)
+  same = side-same (x .side) (eqb (x .side) 0) refl
+
+  pub here-read : x .kind ≡ 1 →
+      ((arrays : Arrays) (z : Cells) → CellsAt arrays z from to → Acts arrays (read (side-on on) z) s hs cs latest r hs cs latest) →
+      As hs cs latest (action-of x)
+  here-read e p =
+      by-kind x (omega arith, omega arith) (As hs cs latest)
+      (λ _. carry (λ t. As hs cs latest (read t named)) same (λ arrays k. p arrays named k))
+      (λ z. absurd (omega arith)) (λ z. absurd (omega arith)) (λ z. absurd (omega arith)) (λ z. absurd (omega arith))
+
+  pub here-write : x .kind ≡ 2 → (hs′ cs′ latest′ : List ℕ) →
+      ((arrays : Arrays) (z : Cells) → CellsAt arrays z from to → Acts arrays (write (side-on on) z) s hs cs latest r hs′ cs′ latest′) →
+      As hs′ cs′ latest′ (action-of x)
+  here-write e hs′ cs′ latest′ p =
+      by-kind x (omega arith, omega arith) (As hs′ cs′ latest′) (λ z. absurd (omega arith))
+      (λ _. carry (λ t. As hs′ cs′ latest′ (write t named)) same (λ arrays k. p arrays named k))
+      (λ z. absurd (omega arith)) (λ z. absurd (omega arith)) (λ z. absurd (omega arith))
+
+  pub here-move : (1 ≤ x .kind) × (x .kind ≤ 5) → (x .kind ≡ 1 → ⊥) → (x .kind ≡ 2 → ⊥) → (x .kind ≡ 5 → ⊥) → (hs′ cs′ : List ℕ) →
+      (eqb (x .kind) 4 ≡ false → (arrays : Arrays) (z : Cells) → CellsAt arrays z from to → Acts arrays (copy (side-on on) z) s hs cs latest r hs′ cs′ latest) →
+      (eqb (x .kind) 4 ≡ true → (arrays : Arrays) → ArrayAt arrays (x .array) from to → Acts arrays (need (side-on on) (x .array)) s hs cs latest r hs′ cs′ latest) →
+      As hs′ cs′ latest (action-of x)
+  here-move b n1 n2 n5 hs′ cs′ m p =
+      by-kind x b (As hs′ cs′ latest) (λ z. absurd (n1 z)) (λ z. absurd (n2 z))
+      (λ e. carry (λ t. As hs′ cs′ latest (copy t named)) same (λ arrays k. m (ne-eqb (x .kind) 4 (λ z. omega arith)) arrays named k))
+      (λ e. carry (λ t. As hs′ cs′ latest (need t (x .array))) same (λ arrays k. p (eq-eqb (x .kind) 4 e) arrays k))
+      (λ z. absurd (n5 z))
+
+  pub here-mark : x .kind ≡ 5 →
+      ((arrays : Arrays) (from to : ℕ) (hs cs latest : List ℕ) → ArrayAt arrays (x .array) from to → Acts arrays (mark (side-on on) (x .array)) s hs cs latest r hs cs latest) →
+      As hs cs latest (action-of x)
+  here-mark e p =
+      by-kind x (omega arith, omega arith) (As hs cs latest)
+      (λ z. absurd (omega arith)) (λ z. absurd (omega arith)) (λ z. absurd (omega arith)) (λ z. absurd (omega arith))
+      (λ _. carry (λ t. As hs cs latest (mark t (x .array))) same (λ arrays k. p arrays from to hs cs latest k))

@@ -1,4 +1,2 @@
--- What memories and flags hold, and what one record does to them.
-pub mod Memories
-pub mod Flags
+-- What one record does to memories and flags.
 pub mod Inner

@@ -1,18 +1,21 @@
-// What a record of kind 1 to 5 does, seen from its own side: to the copies of that side, its flags, and the tally.
+// What a record of kind 1 to 5 does to the memories, flags and tally.
 ghost use mathlib.Core.Path.{_≡_};
-ghost use mathlib.Core.Bool.{true, false};
+ghost use mathlib.Core.Bool.{true, false, not};
 ghost use mathlib.Core.List.{List};
 ghost use Prim.Native.Nat.{ℕ, _≤_, _<_};
-ghost use Rattle.model.specs.Sides.{Side, Arrays, Cells};
-ghost use Rattle.model.specs.Effects.{read, write, need, mark};
-ghost use Rattle.format.specs.Plans.{side-of, action-of};
-ghost use Rattle.acts.specs.Inner.Acting.{Room, Rooms, Same, Low, CellsAt, ArrayAt, Spans, BothSet, BothSetAs, swapped, turned-as, Follows, Acts, MovesCells};
-use crate::flags::flag_set;
-use crate::flags::with_flag;
-use crate::flags::without_flag;
-use crate::memories::copy_cells;
-use crate::memories::fill;
-use crate::memories::first_stale;
+ghost use lib.Dec.{eqb};
+ghost use Rattle.model.specs.Sides.{Arrays, Cells};
+ghost use Rattle.model.specs.Effects.{read, write, copy, need, mark};
+ghost use Rattle.format.specs.Plans.{action-of};
+ghost use Rattle.memories.specs.Inner.Ranges.{Same};
+ghost use Rattle.acts.specs.Inner.Acting.{Rooms, Low, CellsAt, ArrayAt, Spans, BothSet, BothSetAs, Acts, side-on, flags-on, MovesOn};
+use memories::copy_on;
+use memories::fill;
+use memories::fill_on;
+use memories::flags::flag_set;
+use memories::flags::with_flag;
+use memories::flags::without_flag;
+use memories::stale_on;
 use model::Cell;
 use reading::Fields;
 use reading::kinds::MARK;
@@ -20,10 +23,7 @@ use reading::kinds::NEED;
 use reading::kinds::READ;
 use reading::kinds::WRITE;
 
-pub mod flags;
-pub mod memories;
-
-// What a run keeps besides the memories: the flags of the side in view, those of the other side, and the tally.
+// What a run keeps besides the memories: the flags of the host, those of the card, and the tally.
 pub struct Stored {
     pub flags: u32,
     pub other_flags: u32,
@@ -38,25 +38,20 @@ pub enum Acted {
     Unmet(Cell),
 }
 
-// The same seen from the other side.
-pub fn swap(s: Stored) -> Stored
-    ensures { λ r. ⌜ r ≡ swapped s ⌝ }
+// A read of the cells `from` up to `to` on a side.
+fn act_read<'a>(
+    on_card: bool,
+    from: usize,
+    to: usize,
+    s: Stored,
+    host: &'a [u64],
+    card: &'a [u64],
+    latest: &[u64],
+) -> Acted
+    requires { ⌜ Low s × Rooms from to (now host) (now card) (now latest) ⌝ }
+    ensures { λ r. ⌜ ((arrays : Arrays) (x : Cells) → CellsAt arrays x from to → Acts arrays (read (side-on «on_card») x) s (now (host .entry)) (now (card .entry)) (now (latest .entry)) r (now (host .entry)) (now (card .entry)) (now (latest .entry))) ⌝ }
 {
-    Stored {
-        flags: s.other_flags,
-        other_flags: s.flags,
-        reads: s.reads,
-        writes: s.writes,
-        moved: s.moved,
-    }
-}
-
-// A read of the cells `from` up to `to`.
-fn act_read(s: Stored, from: usize, to: usize, own: &[u64], latest: &[u64]) -> Acted
-    requires { ⌜ Low s × (to ≤ 4096) × Room from to (now own) × Room from to (now latest) ⌝ }
-    ensures { λ r. ⌜ ((arrays : Arrays) (t : Side) (x : Cells) (others : List ℕ) → CellsAt arrays x from to → Follows arrays (read t x) t s (now (own .entry)) others (now (latest .entry)) r (now (own .entry)) (now (latest .entry))) ⌝ }
-{
-    let c = first_stale(own, latest, from, to);
+    let c = stale_on(on_card, host, card, latest, from, to);
     if c < to {
         return Acted::Unmet(Cell(c as u16));
     }
@@ -69,15 +64,22 @@ fn act_read(s: Stored, from: usize, to: usize, own: &[u64], latest: &[u64]) -> A
     })
 }
 
-// A write of the cells `from` up to `to`.
-fn act_write(s: Stored, from: usize, to: usize, own: &mut [u64], latest: &mut [u64]) -> Acted
-    requires { ⌜ Low s × (to ≤ 4096) × Room from to (now own) × Room from to (now latest) ⌝ }
-    ensures follows { λ r. ⌜ ((arrays : Arrays) (t : Side) (x : Cells) (others : List ℕ) → CellsAt arrays x from to → Follows arrays (write t x) t s (now (own .entry)) others (now (latest .entry)) r (now (own .exit)) (now (latest .exit))) ⌝ }
-    ensures own { λ _. ⌜ Same to (now (own .entry)) (now (own .exit)) ⌝ }
-    ensures latest { λ _. ⌜ Same to (now (latest .entry)) (now (latest .exit)) ⌝ }
+// A write of the cells `from` up to `to` on a side.
+fn act_write(
+    on_card: bool,
+    from: usize,
+    to: usize,
+    s: Stored,
+    host: &mut [u64],
+    card: &mut [u64],
+    latest: &mut [u64],
+) -> Acted
+    requires { ⌜ Low s × Rooms from to (now host) (now card) (now latest) ⌝ }
+    ensures acts { λ r. ⌜ ((arrays : Arrays) (x : Cells) → CellsAt arrays x from to → Acts arrays (write (side-on «on_card») x) s (now (host .entry)) (now (card .entry)) (now (latest .entry)) r (now (host .exit)) (now (card .exit)) (now (latest .exit))) ⌝ }
+    ensures same { λ _. ⌜ Same to (now (host .entry)) (now (host .exit)) × Same to (now (card .entry)) (now (card .exit)) × Same to (now (latest .entry)) (now (latest .exit)) ⌝ }
 {
     let k = s.writes + 1;
-    fill(own, from, to, k);
+    fill_on(on_card, host, card, from, to, k);
     fill(latest, from, to, k);
     Acted::Done(Stored {
         flags: s.flags,
@@ -88,24 +90,24 @@ fn act_write(s: Stored, from: usize, to: usize, own: &mut [u64], latest: &mut [u
     })
 }
 
-// A copy of the cells `from` up to `to` from the other side.
+// A copy of the cells `from` up to `to` to a side from the other.
 fn act_copy(
-    s: Stored,
+    on_card: bool,
     from: usize,
     to: usize,
-    own: &mut [u64],
-    other: &[u64],
+    s: Stored,
+    host: &mut [u64],
+    card: &mut [u64],
     latest: &[u64],
 ) -> Acted
-    requires { ⌜ Low s × (to ≤ 4096) × Room from to (now own) × Room from to (now other) × Room from to (now latest) ⌝ }
-    ensures { λ r. ⌜ MovesCells from to s (now (own .entry)) (now (other .entry)) (now (latest .entry)) r (now (own .exit)) ⌝ }
+    requires { ⌜ Low s × Rooms from to (now host) (now card) (now latest) ⌝ }
+    ensures { λ r. ⌜ MovesOn «on_card» from to s (now (host .entry)) (now (card .entry)) (now (latest .entry)) r (now (host .exit)) (now (card .exit)) ⌝ }
 {
-    let c = first_stale(other, latest, from, to);
+    let c = stale_on(!on_card, host, card, latest, from, to);
     if c < to {
-        let cell = c as u16;
-        return Acted::Unmet(Cell(cell));
+        return Acted::Unmet(Cell(c as u16));
     }
-    copy_cells(other, own, from, to);
+    copy_on(on_card, host, card, from, to);
     Acted::Done(Stored {
         flags: s.flags,
         other_flags: s.other_flags,
@@ -140,38 +142,58 @@ fn with_both(r: Acted, array: u8) -> Acted
     }
 }
 
-// A copy of the cells `from` up to `to` from the other side, or a need of the array that they are.
+// The flags of a side.
+fn side_flags(on_card: bool, s: Stored) -> u32
+    ensures { λ r. ⌜ r ≡ flags-on «on_card» s ⌝ }
+{
+    if on_card {
+        return s.other_flags;
+    }
+    s.flags
+}
+
+// A copy of the cells `from` up to `to` to a side from the other, or a need of the array that they are.
 // Both go through one call of `act_copy`, which the compiler then puts in place.
 fn act_move(
-    s: Stored,
     needs: bool,
+    on_card: bool,
     array: u8,
     from: usize,
     to: usize,
-    own: &mut [u64],
-    other: &[u64],
+    s: Stored,
+    host: &mut [u64],
+    card: &mut [u64],
     latest: &[u64],
 ) -> Acted
-    requires { ⌜ Low s × (array < 32) × (to ≤ 4096) × Room from to (now own) × Room from to (now other) × Room from to (now latest) ⌝ }
-    ensures copies { λ r. ⌜ (needs ≡ false → MovesCells from to s (now (own .entry)) (now (other .entry)) (now (latest .entry)) r (now (own .exit))) ⌝ }
-    ensures follows { λ r. ⌜ (needs ≡ true → (arrays : Arrays) (t : Side) → ArrayAt arrays array from to → Follows arrays (need t array) t s (now (own .entry)) (now (other .entry)) (now (latest .entry)) r (now (own .exit)) (now (latest .entry))) ⌝ }
-    ensures own { λ _. ⌜ Same to (now (own .entry)) (now (own .exit)) ⌝ }
+    requires { ⌜ Low s × (array < 32) × Rooms from to (now host) (now card) (now latest) ⌝ }
+    ensures copies { λ r. ⌜ (needs ≡ false → (arrays : Arrays) (x : Cells) → CellsAt arrays x from to → Acts arrays (copy (side-on «on_card») x) s (now (host .entry)) (now (card .entry)) (now (latest .entry)) r (now (host .exit)) (now (card .exit)) (now (latest .entry))) ⌝ }
+    ensures needed { λ r. ⌜ (needs ≡ true → (arrays : Arrays) → ArrayAt arrays array from to → Acts arrays (need (side-on «on_card») array) s (now (host .entry)) (now (card .entry)) (now (latest .entry)) r (now (host .exit)) (now (card .exit)) (now (latest .entry))) ⌝ }
+    ensures same { λ _. ⌜ Same to (now (host .entry)) (now (host .exit)) × Same to (now (card .entry)) (now (card .exit)) ⌝ }
 {
-    if needs & flag_set(s.flags, array) {
+    if needs & flag_set(side_flags(on_card, s), array) {
         return Acted::Done(s);
     }
-    let r = act_copy(s, from, to, own, other, latest);
+    let r = act_copy(on_card, from, to, s, host, card, latest);
     if needs {
         return with_both(r, array);
     }
     r
 }
 
-// A mark of an array.
-fn act_mark(s: Stored, array: u8) -> Acted
+// A mark of an array on a side.
+fn act_mark(on_card: bool, array: u8, s: Stored) -> Acted
     requires { ⌜ array < 32 ⌝ }
-    ensures { λ r. ⌜ ((arrays : Arrays) (t : Side) (from to : ℕ) (own others latest : List ℕ) → ArrayAt arrays array from to → Follows arrays (mark t array) t s own others latest r own latest) ⌝ }
+    ensures { λ r. ⌜ ((arrays : Arrays) (from to : ℕ) (host card latest : List ℕ) → ArrayAt arrays array from to → Acts arrays (mark (side-on «on_card») array) s host card latest r host card latest) ⌝ }
 {
+    if on_card {
+        return Acted::Done(Stored {
+            flags: without_flag(s.flags, array),
+            other_flags: with_flag(s.other_flags, array),
+            reads: s.reads,
+            writes: s.writes,
+            moved: s.moved,
+        });
+    }
     Acted::Done(Stored {
         flags: with_flag(s.flags, array),
         other_flags: without_flag(s.other_flags, array),
@@ -181,42 +203,8 @@ fn act_mark(s: Stored, array: u8) -> Acted
     })
 }
 
-// A record with the fields x, whose cells are `from` up to `to`, seen from its side.
-fn act_here(
-    x: Fields,
-    from: usize,
-    to: usize,
-    s: Stored,
-    own: &mut [u64],
-    other: &[u64],
-    latest: &mut [u64],
-) -> Acted
-    requires { ⌜ Low s × (1 ≤ x .kind) × (x .kind ≤ 5) × (x .array < 32) × Rooms from to (now own) (now other) (now latest) ⌝ }
-    ensures follows { λ r. ⌜ ((arrays : Arrays) (t : Side) → t ≡ side-of (x .side) → Spans arrays (action-of x) from to → Follows arrays (action-of x) t s (now (own .entry)) (now (other .entry)) (now (latest .entry)) r (now (own .exit)) (now (latest .exit))) ⌝ }
-    ensures own { λ _. ⌜ Same to (now (own .entry)) (now (own .exit)) ⌝ }
-    ensures latest { λ _. ⌜ Same to (now (latest .entry)) (now (latest .exit)) ⌝ }
-{
-    let kind = x.kind;
-    let array = x.array;
-    match kind {
-        READ => act_read(s, from, to, own, latest),
-        WRITE => act_write(s, from, to, own, latest),
-        MARK => act_mark(s, array),
-        _ => act_move(s, kind == NEED, array, from, to, own, other, latest),
-    }
-}
-
-// The same seen from the other side.
-fn turned(r: Acted) -> Acted
-    ensures { λ q. ⌜ q ≡ turned-as r ⌝ }
-{
-    match r {
-        Acted::Done(s) => Acted::Done(swap(s)),
-        Acted::Unmet(c) => Acted::Unmet(c),
-    }
-}
-
-// A record with the fields x, whose cells are `from` up to `to`, seen from the host.
+// A record with the fields x, whose cells are `from` up to `to`. Each kind looks for the side itself: one function for each side, called with the memories
+// exchanged, stood between the compiler and its loops.
 pub fn act(
     x: Fields,
     from: usize,
@@ -232,8 +220,23 @@ pub fn act(
     ensures card { λ _. ⌜ Same to (now (card .entry)) (now (card .exit)) ⌝ }
     ensures latest { λ _. ⌜ Same to (now (latest .entry)) (now (latest .exit)) ⌝ }
 {
-    if x.side == 0 {
-        return act_here(x, from, to, s, host, card, latest);
+    let kind = x.kind;
+    let on_card = x.side != 0;
+    let array = x.array;
+    match kind {
+        READ => act_read(on_card, from, to, s, host, card, latest),
+        WRITE => act_write(on_card, from, to, s, host, card, latest),
+        MARK => act_mark(on_card, array, s),
+        _ => act_move(
+            kind == NEED,
+            on_card,
+            array,
+            from,
+            to,
+            s,
+            host,
+            card,
+            latest,
+        ),
     }
-    turned(act_here(x, from, to, swap(s), card, host, latest))
 }

@@ -24,7 +24,7 @@ use Rattle.model.proofs.Demand3.{moves-add}
 use Rattle.reading.specs.Bytes.{kind-of, table, arrays-of}
 use Rattle.reading.proofs.Tables.{length-table, getD-table}
 use Rattle.format.specs.Opening.{open-rows, opening}
-use Rattle.acts.specs.Memories.{number-of}
+use Rattle.memories.specs.Memories.{number-of}
 use Rattle.model.specs.Rows.{row, first}
 use Rattle.format.specs.Plans.{plan-of, declared-plan-of}
 use Rattle.judge.specs.Judged.{judged}

@@ -6,7 +6,7 @@ ghost use Prim.Native.Nat.{ℕ, _+_, _≤_, _<_};
 ghost use lib.ListN.{length};
 ghost use Rattle.model.specs.Sides.{cells};
 ghost use Rattle.reading.specs.Bytes.{arrays-of, first-arm, second-arm};
-ghost use Rattle.acts.specs.Inner.Acting.{Same};
+ghost use Rattle.memories.specs.Inner.Ranges.{Same};
 ghost use Rattle.machine.specs.Inner.Standing.{spot, runner, stored-with, tally-with, past-record, ended-with, moved-to, tested, measure, Stood, Steps};
 use acts::Acted;
 use acts::Stored;

@@ -29,10 +29,10 @@ use Rattle.format.proofs.Walking.{verdict-is, found-is, array-start, Facts, ope
 use Rattle.format.proofs.Trees.{plain-good, plain-body}
 use Rattle.run.specs.Running.{Lent, run-rows}
 use Rattle.machine.specs.Choices.{choices-of}
-use Rattle.acts.specs.Inner.Acting.{Changed}
+use Rattle.memories.specs.Inner.Ranges.{Changed}
 use Rattle.machine.specs.Inner.Standing.{spot, runner, started, rest-of, left-of, weight-of, weight, Parts, Reaches}
 use Rattle.run.specs.Inner.Beginning.{Fronted, first-machine, Ready}
-use Rattle.acts.proofs.Masks.{none}
+use Rattle.memories.proofs.Masks.{none}
 
 -- the rows, one after the other
 module _ (f choices : List ℕ) (b : Lent) where

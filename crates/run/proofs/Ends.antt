@@ -20,8 +20,8 @@ use Rattle.reading.proofs.Tables.{length-table, getD-table}
 use Rattle.run.specs.declared.End.{End}
 use Rattle.run.specs.Running.{Lent, lent, run-rows, memory, holding, no-end, end-of, Ran, RunsAs, Runs}
 use Rattle.machine.specs.Choices.{choices-of}
-use Rattle.acts.specs.Memories.{number-of}
-use Rattle.acts.specs.Inner.Acting.{Same}
+use Rattle.memories.specs.Memories.{number-of}
+use Rattle.memories.specs.Inner.Ranges.{Same}
 use Rattle.machine.specs.Inner.Standing.{Runner, said-of, Over, Reaches}
 use Rattle.run.specs.Inner.Beginning.{end-with}
 

@@ -15,8 +15,8 @@ use Rattle.model.specs.Rows.{Row, row, first}
 use Rattle.reading.specs.Bytes.{kind-of, table, arrays-of}
 use Rattle.format.specs.Opening.{open-rows}
 use Rattle.format.specs.Plans.{plan-of}
-use Rattle.acts.specs.Memories.{number-of}
-use Rattle.acts.specs.Flags.{mask, set-flags}
+use Rattle.memories.specs.Memories.{number-of}
+use Rattle.memories.specs.Flags.{mask, set-flags}
 use Rattle.machine.specs.Choices.{choices-of}
 use Rattle.run.specs.declared.End.{End}
 

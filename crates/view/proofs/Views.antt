@@ -14,7 +14,7 @@ use Rattle.model.proofs.Booleans.{or-none, and-out}
 use Rattle.model.proofs.Rows.{holds, skips, skipped, empty}
 use Rattle.view.specs.declared.View.{View}
 use Rattle.view.specs.Viewing.{all-current, memory-view-answer, viewed-side, viewed-place, viewed, memory-view, view-by, memory-side}
-use Rattle.acts.specs.Inner.Acting.{FirstStale}
+use Rattle.memories.specs.Inner.Ranges.{FirstStale}
 
 -- n cells from c on are all current exactly if each of them is
 module _ (copies latest : List ℕ) where

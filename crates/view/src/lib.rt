@@ -3,7 +3,7 @@ ghost use mathlib.Core.Path.{_≡_};
 ghost use Prim.Native.Nat.{_-_, _≤_, min};
 ghost use lib.ListN.{length};
 ghost use Rattle.view.specs.Viewing.{all-current, memory-view-answer, viewed-side, viewed-place, memory-view, memory-side};
-use acts::memories::first_stale;
+use memories::first_stale;
 use model::Verdict;
 
 // An answer with the side of the part, where it is accepted.

@@ -1,12 +1,25 @@
--- `act` follows the model on both sides: a record of the card acts as seen from the card.
+-- `act` follows the model, kind by kind.
+use Rattle.memories.proofs.Cells.{same-all}
+use Rattle.acts.proofs.Turning.{here-read, here-write, here-move, here-mark}
 use borrow.Author.Needs.{needs}
-use Rattle.acts.proofs.Cells.{same-all}
-use Rattle.acts.proofs.Turning.{low-swapped, rooms-swapped, act-host, act-card}
 use Rattle.acts.proofs.act.Statement.{statement}
 use Rattle.acts.proofs.act.Tie as tie
+use Rattle.acts.proofs.act_mark.Reads as act-mark-reads
+use Rattle.acts.proofs.act_move.Reads as act-move-reads
+use Rattle.acts.proofs.act_read.Reads as act-read-reads
+use Rattle.acts.proofs.act_write.Reads as act-write-reads
 
-act-here-requires : tie.Need-act-here-requires
-act-here-requires c κs = search needs
+act-read-requires : tie.Need-act-read-requires
+act-read-requires c κs = search needs
+
+act-write-requires : tie.Need-act-write-requires
+act-write-requires c κs = search needs
+
+act-mark-requires : tie.Need-act-mark-requires
+act-mark-requires c κs = search needs
+
+act-move-requires : tie.Need-act-move-requires
+act-move-requires c κs = search needs
 
 same-length : tie.Need-same-length
 same-length c = search needs
@@ -19,18 +32,8 @@ same-length-3 c = search needs
 
 returns : tie.Need-returns
 returns c =
-    let a = c .before .before .before .before .before .before .before .before .before .before .before .before .before .args in
-    let w = c .before .before .before .before .act-here in
-    (act-host (a .x) (a .from) (a .to) (a .s) (a .host .now) (a .card .now) (a .latest .now) (c .before .before .before .before .before .before .before .before .if1 .taken) (w .result) _ _ (w .ensures .0), (w .ensures .1 .0, (same-all _ _, w .ensures .1 .1)))
-
-swap-requires : tie.Need-swap-requires
-swap-requires c κs = search needs
-
-act-here-requires-2 : tie.Need-act-here-requires-2
-act-here-requires-2 c κs = let p = c .before .before .before .before .before .before .before .before .before .pre in (low-swapped (c .before .before .before .swap .ensures) (p .0), p .1, p .2, p .3, rooms-swapped (p .4))
-
-turned-requires : tie.Need-turned-requires
-turned-requires c κs = search needs
+    let a = c .before .before .before .before .before .before .before .before .before .args in
+    (here-read (a .x) (a .from) (a .to) (a .s) (a .host .now) (a .card .now) (a .latest .now) (c .act-read .result) (c .before .before .before .before .match .keys1) (c .act-read .ensures), (same-all _ _, (same-all _ _, same-all _ _)))
 
 same-length-4 : tie.Need-same-length-4
 same-length-4 c = search needs
@@ -44,22 +47,51 @@ same-length-6 c = search needs
 returns-2 : tie.Need-returns-2
 returns-2 c =
     let a = c .before .before .before .before .before .before .before .before .before .before .before .before .before .before .before .args in
-    let w = c .before .before .before .before .before .act-here2 in
-    (act-card (a .x) (a .from) (a .to) (a .s) (a .host .now) (a .card .now) (a .latest .now) (c .before .before .before .before .before .before .before .before .before .before .if1 .left) (w .result) _ _ (c .before .before .before .before .before .before .before .before .before .swap .ensures) (c .turned .ensures) (w .ensures .0), (same-all _ _, w .ensures .1))
+    let w = c .before .before .before .before .before .before .act-write in
+    let p = w .ensures .1 in
+    (here-write (a .x) (a .from) (a .to) (a .s) (a .host .now) (a .card .now) (a .latest .now) (w .result) (c .before .before .before .before .before .before .before .before .before .before .match .keys2) _ _ _ (w .ensures .0), (p .0, (p .1, p .2)))
+
+returns-3 : tie.Need-returns-3
+returns-3 c =
+    let a = c .before .before .before .before .before .before .args in
+    (here-mark (a .x) (a .from) (a .to) (a .s) (a .host .now) (a .card .now) (a .latest .now) (c .act-mark .result) (c .before .match .keys3) (c .act-mark .ensures), (same-all _ _, (same-all _ _, same-all _ _)))
+
+same-length-7 : tie.Need-same-length-7
+same-length-7 c = search needs
+
+same-length-8 : tie.Need-same-length-8
+same-length-8 c = search needs
+
+same-length-9 : tie.Need-same-length-9
+same-length-9 c = search needs
+
+returns-4 : tie.Need-returns-4
+returns-4 c =
+    let b = c .before .before .before .before .before .before .before .before .before .before .before .before .before in
+    let a = b .args in
+    let w = c .before .before .before .before .act-move in
+    let n = c .before .before .before .before .before .before .before .before .match .rest in
+    let p = w .ensures .1 .1 in
+    (here-move (a .x) (a .from) (a .to) (a .s) (a .host .now) (a .card .now) (a .latest .now) (w .result) (b .pre .1, b .pre .2) (n .0 .0 .1) (n .0 .1) (n .1) _ _ (w .ensures .0) (w .ensures .1 .0), (p .0, (p .1, same-all _ _)))
 
 pub act-spec : {M : Type 1} → statement M
 act-spec =
     tie.close
     (tie.spec
-    act-here-requires
+    act-read-requires
+    act-write-requires
+    act-mark-requires
+    act-move-requires
     same-length
     same-length-2
     same-length-3
     returns
-    swap-requires
-    act-here-requires-2
-    turned-requires
     same-length-4
     same-length-5
     same-length-6
-    returns-2)
+    returns-2
+    returns-3
+    same-length-7
+    same-length-8
+    same-length-9
+    returns-4)

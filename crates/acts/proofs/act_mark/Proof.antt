@@ -1,19 +1,39 @@
 -- `act_mark` follows the model: a mark sets the flag of its side and clears the other.
-use borrow.Author.Needs.{needs}
 use mathlib.Core.Path.{refl}
-use Rattle.acts.proofs.Acting.{mark-done}
+use Rattle.acts.proofs.Turning.{mark-card, mark-host}
+use borrow.Author.Needs.{needs}
 use Rattle.acts.proofs.act_mark.Statement.{statement}
 use Rattle.acts.proofs.act_mark.Tie as tie
-
-with-flag-requires : tie.Need-with-flag-requires
-with-flag-requires c κs = search needs
+use Rattle.memories.proofs.flags.with_flag.Reads as with-flag-reads
+use Rattle.memories.proofs.flags.without_flag.Reads as without-flag-reads
 
 without-flag-requires : tie.Need-without-flag-requires
 without-flag-requires c κs = search needs
 
+with-flag-requires : tie.Need-with-flag-requires
+with-flag-requires c κs = search needs
+
 returns : tie.Need-returns
-returns c = λ arrays t from to own others latest k σ l h.
-    mark-done h _ _ (c .before .with-flag .ensures _ _ (k .one) (h .own-flags)) (c .without-flag .ensures _ _ (k .one) (h .others-flags)) refl refl refl
+returns c = λ arrays from to hs cs latest k σ l h.
+    mark-card h _ _ _ (c .before .before .if1 .taken) (c .before .without-flag .ensures _ _ (k .one) (h .own-flags)) (c .with-flag .ensures _ _ (k .one) (h .others-flags)) refl refl refl
+
+with-flag-requires-2 : tie.Need-with-flag-requires-2
+with-flag-requires-2 c κs = search needs
+
+without-flag-requires-2 : tie.Need-without-flag-requires-2
+without-flag-requires-2 c κs = search needs
+
+returns-2 : tie.Need-returns-2
+returns-2 c = λ arrays from to hs cs latest k σ l h.
+    mark-host h _ _ _ (c .before .before .if1 .left) (c .before .with-flag2 .ensures _ _ (k .one) (h .own-flags)) (c .without-flag2 .ensures _ _ (k .one) (h .others-flags)) refl refl refl
 
 pub act-mark-spec : {M : Type 1} → statement M
-act-mark-spec = tie.close (tie.spec with-flag-requires without-flag-requires returns)
+act-mark-spec =
+    tie.close
+    (tie.spec
+    without-flag-requires
+    with-flag-requires
+    returns
+    with-flag-requires-2
+    without-flag-requires-2
+    returns-2)

@@ -1,12 +1,12 @@
 -- No promise of an entry point rests on this text: what a record of kind 1 to 5 does to lent memories, flags and tally.
 use Prim.Native.Nat.{ℕ, _+_, _-_, _≤_, _<_}
 use mathlib.Core.Path.{_≡_}
-use mathlib.Core.Bool.{Bool, true, cond, _&&_}
+use mathlib.Core.Bool.{Bool, true, cond}
 use mathlib.Core.List.{List, _∷_}
 use mathlib.Core.Option.{none, some}
-use lib.Dec.{leb, ltb, eqb}
+use lib.Dec.{eqb}
 use lib.ListN.{length, getD}
-use Rattle.model.specs.Sides.{Side, host, other, Arrays, cells, length-of, first-of, Cells}
+use Rattle.model.specs.Sides.{Side, host, card, other, Arrays, cells, length-of, first-of, Cells}
 use Rattle.model.specs.Effects.{Action, read, write, copy, need, mark, State, effect}
 use Rattle.model.specs.Runs.{Event, lowest-unmet, tally}
 use Rattle.model.proofs.Runs.{event}
@@ -14,63 +14,16 @@ use Rattle.model.proofs.Stamps.{Past}
 use Rattle.acts.specs.declared.Stored.{Stored}
 use Rattle.acts.specs.declared.Acted.{Acted}
 use Rattle.acts.specs.declared.Acted.the-variants.{Done, Unmet}
-use Rattle.acts.specs.Memories.{number-of}
-use Rattle.acts.specs.Flags.{mask}
+use Rattle.memories.specs.Memories.{number-of}
+use Rattle.memories.specs.Flags.{mask}
+use Rattle.memories.specs.Inner.Ranges.{Room, FirstStale, Changed, of-side}
 
--- the cells `from` up to `to` lie inside a memory
-pub record Room (from to : ℕ) (l : List ℕ) : Type 0 where
-  pub order : from ≤ to
-  pub inside : to ≤ length l
-
--- inside three memories, and they are no more than a plan has
+-- the cells `from` up to `to` lie inside three memories, and they are no more than a plan has
 pub record Rooms (from to : ℕ) (own others latest : List ℕ) : Type 0 where
   pub few : to ≤ 4096
   pub in-own : Room from to own
   pub in-others : Room from to others
   pub in-latest : Room from to latest
-
--- whether cell c is one of them
-abbrev pub among : ℕ → ℕ → ℕ → Bool
-among from to c = leb from c && ltb c to
-
--- whether the copy of a cell is current
-abbrev pub is-current : List ℕ → List ℕ → ℕ → Bool
-is-current copies latest c = eqb (getD copies c 0) (getD latest c 0)
-
--- whether those of the 8 cells from c on are
-abbrev pub block-current : List ℕ → List ℕ → ℕ → Bool
-block-current copies latest c =
-    is-current copies latest c
-    && is-current copies latest (c + 1)
-    && is-current copies latest (c + 2)
-    && is-current copies latest (c + 3)
-    && is-current copies latest (c + 4)
-    && is-current copies latest (c + 5)
-    && is-current copies latest (c + 6)
-    && is-current copies latest (c + 7)
-
--- the copies from `from` up to r are current
-pub record CurrentTo (copies latest : List ℕ) (from to r : ℕ) : Type 0 where
-  pub low : from ≤ r
-  pub high : r ≤ to
-  pub before : (c : ℕ) → from ≤ c → c < r → getD copies c 0 ≡ getD latest c 0
-
--- r is the first of them whose copy is stale, `to` if none is
-pub record FirstStale (copies latest : List ℕ) (from to r : ℕ) : Type 0 where
-  pub low : from ≤ r
-  pub high : r ≤ to
-  pub before : (c : ℕ) → from ≤ c → c < r → getD copies c 0 ≡ getD latest c 0
-  pub here : r < to → getD copies r 0 ≡ getD latest r 0 → ⊥
-
--- they are as `new` says, and every other cell is as it was
-pub record Changed (from to : ℕ) (new : ℕ → ℕ) (before after : List ℕ) : Type 0 where
-  pub size : length after ≡ length before
-  pub cell : (c : ℕ) → getD after c 0 ≡ cond (among from to c) (new c) (getD before c 0)
-
--- the cells from n on are as they were
-pub record Same (n : ℕ) (before after : List ℕ) : Type 0 where
-  pub size : length after ≡ length before
-  pub cell : (c : ℕ) → n ≤ c → getD after c 0 ≡ getD before c 0
 
 -- the tally leaves room for one record more
 pub record Low (s : Stored) : Type 0 where
@@ -129,15 +82,6 @@ BothSetAs (Done s) a (Unmet c) = ⊥
 BothSetAs (Unmet c) a (Done s) = ⊥
 BothSetAs (Unmet c) a (Unmet c′) = c′ ≡ c
 
--- the flags seen from the other side
-abbrev pub swapped : Stored → Stored
-swapped s = record { flags = s .«other_flags»; «other_flags» = s .flags; reads = s .reads; writes = s .writes; moved = s .moved }
-
--- an answer seen from the other side
-abbrev pub turned-as : Acted → Acted
-turned-as (Done s) = Done (swapped s)
-turned-as (Unmet c) = Unmet c
-
 -- what a record with the action y did, seen from side t: it acted, or it is unmet and nothing has changed
 abbrev pub FollowsAs : Arrays → Action → Side → State → List Event → List ℕ → List ℕ → List ℕ → Acted → List ℕ → List ℕ → Type 0
 FollowsAs arrays y t σ l own others latest (Done s) own′ latest′ = (lowest-unmet arrays y σ ≡ none) × Holds arrays t s own′ others latest′ (effect arrays y σ) (event y σ ∷ l)
@@ -156,6 +100,14 @@ ActsAs arrays y σ l own others latest (Unmet c) own′ others′ latest′ = (l
 abbrev pub Acts : Arrays → Action → Stored → List ℕ → List ℕ → List ℕ → Acted → List ℕ → List ℕ → List ℕ → Type 0
 Acts arrays y s own others latest r own′ others′ latest′ = (σ : State) (l : List Event) → Holds arrays host s own others latest σ l → ActsAs arrays y σ l own others latest r own′ others′ latest′
 
+-- the side that is meant
+abbrev pub side-on : Bool → Side
+side-on on-card = cond on-card card host
+
+-- the flags of a side
+abbrev pub flags-on : Bool → Stored → ℕ
+flags-on on-card s = cond on-card (s .«other_flags») (s .flags)
+
 -- the cells `from` up to `to` are copied from the other side, where all of them are current; or the first that is stale there, and nothing has changed
 abbrev pub MovesCells : ℕ → ℕ → Stored → List ℕ → List ℕ → List ℕ → Acted → List ℕ → Type 0
 MovesCells from to s own others latest (Done s′) own′ =
@@ -163,3 +115,8 @@ MovesCells from to s own others latest (Done s′) own′ =
     × Changed from to (λ c. getD others c 0) own own′
     × (s′ ≡ record { flags = s .flags; «other_flags» = s .«other_flags»; reads = s .reads; writes = s .writes; moved = s .moved + (to - from) })
 MovesCells from to s own others latest (Unmet c) own′ = FirstStale others latest from to (c .0) × (c .0 < to) × (own′ ≡ own)
+
+-- to one side, and the other side is as it was
+pub record MovesOn (on-card : Bool) (from to : ℕ) (s : Stored) (host card latest : List ℕ) (r : Acted) (host′ card′ : List ℕ) : Type 0 where
+  pub moves : MovesCells from to s (of-side on-card host card) (of-side on-card card host) latest r (of-side on-card host′ card′)
+  pub others : of-side on-card card′ host′ ≡ of-side on-card card host

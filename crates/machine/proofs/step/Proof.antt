@@ -8,7 +8,7 @@ use Rattle.model.specs.Sides.{cells}
 use Rattle.reading.specs.Bytes.{array-count, arrays-of}
 use Rattle.format.proofs.Walking.{opened-facts}
 use Rattle.format.proofs.Acts.{record-inside}
-use Rattle.acts.proofs.Cells.{same-all, same-more}
+use Rattle.memories.proofs.Cells.{same-all, same-more}
 use Rattle.machine.specs.Inner.Standing.{Spot, runner, settled, stored-with}
 use Rattle.reading.specs.Inner.Cells.{from-of, to-of}
 use Rattle.machine.proofs.Records.{on-array}

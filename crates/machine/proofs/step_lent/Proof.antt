@@ -42,7 +42,7 @@ use denote.Triple.Walked.{says, needs, Stays, stay-dropped, stay-ref, gave-slice
 use denote.Exit.{yes}
 use Rattle.model.specs.Sides.{cells}
 use Rattle.reading.specs.Bytes.{arrays-of}
-use Rattle.acts.specs.Inner.Acting.{Same}
+use Rattle.memories.specs.Inner.Ranges.{Same}
 use Rattle.machine.specs.Inner.Standing.{runner, measure as left, Stood, Steps}
 use Rattle.model.specs.declared.Tally.{Tally}
 use Rattle.machine.specs.declared.Machine.{Machine}

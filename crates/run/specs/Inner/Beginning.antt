@@ -11,7 +11,7 @@ use Rattle.model.specs.Sides.{cells}
 use Rattle.contents.specs.declared.Opened.{Opened}
 use Rattle.reading.specs.Bytes.{kind-of, arrays-of}
 use Rattle.format.specs.Opening.{opening, opened}
-use Rattle.acts.specs.Flags.{mask, set-flags}
+use Rattle.memories.specs.Flags.{mask, set-flags}
 use Rattle.machine.specs.declared.Machine.{Machine}
 use Rattle.machine.specs.Inner.Standing.{runner, started, Reaches}
 use Rattle.run.specs.declared.End.{End}

@@ -8,7 +8,7 @@ use Rattle.run.proofs.running.end_of.Statement.{statement}
 use Rattle.run.proofs.running.end_of.Tie as tie
 use Rattle.run.proofs.running.end_of.Reads as reads
 use Rattle.run.proofs.running.end_of.Lts as lts
-use Rattle.acts.proofs.flags.flags_set.Reads as flags-set-reads
+use Rattle.memories.proofs.flags.flags_set.Reads as flags-set-reads
 use Rattle.run.proofs.running.no_end.Reads as no-end-reads
 
 enum-told : tie.Need-enum-told

@@ -4,7 +4,7 @@ use Rattle.run.proofs.running.first_machine.Statement.{statement}
 use Rattle.run.proofs.running.first_machine.Tie as tie
 use Rattle.run.proofs.running.first_machine.Reads as reads
 use Rattle.run.proofs.running.first_machine.Lts as lts
-use Rattle.acts.proofs.flags.all_flags.Reads as all-flags-reads
+use Rattle.memories.proofs.flags.all_flags.Reads as all-flags-reads
 use Rattle.machine.proofs.place.first_place.Reads as first-place-reads
 
 first-place-requires : tie.Need-first-place-requires

@@ -44,8 +44,8 @@ use denote.Triple.Walked.{says, needs, Stays, stay-dropped, stay-ref, stay-slice
 use denote.Exit.{yes}
 use Rattle.model.specs.Sides.{cells}
 use Rattle.reading.specs.Bytes.{arrays-of}
-use Rattle.acts.specs.Inner.Acting.{Same}
-use Rattle.acts.proofs.Cells.{same-all, same-twice}
+use Rattle.memories.specs.Inner.Ranges.{Same}
+use Rattle.memories.proofs.Cells.{same-all, same-twice}
 use Rattle.machine.specs.Inner.Standing.{runner, measure as left, Stood, Steps, Reaches}
 use Rattle.machine.proofs.Steps.{stood, goes-on}
 use Rattle.model.specs.declared.Tally.{Tally}

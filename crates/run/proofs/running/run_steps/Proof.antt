@@ -27,7 +27,7 @@ use denote.Triple.Table.{entered, cited}
 use denote.Exit.{yes}
 use Rattle.model.specs.Sides.{cells}
 use Rattle.reading.specs.Bytes.{arrays-of}
-use Rattle.acts.specs.Inner.Acting.{Same}
+use Rattle.memories.specs.Inner.Ranges.{Same}
 use Rattle.machine.specs.Inner.Standing.{runner, Reaches}
 use Rattle.model.specs.declared.Tally.{Tally}
 use Rattle.machine.specs.declared.Machine.{Machine}

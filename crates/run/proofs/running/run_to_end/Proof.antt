@@ -1,7 +1,7 @@
 -- `run_to_end` runs an opened plain plan to its end.
 use mathlib.Core.Path.{refl, ap, _∙_}
 use native.Mathlib.Omega.{arith}
-use Rattle.acts.proofs.Cells.{changed-same, same-twice}
+use Rattle.memories.proofs.Cells.{changed-same, same-twice}
 use Rattle.run.proofs.Begins.{reaches-start, ready-found, ready-facts, ready-plain, ready-front}
 use borrow.Author.Needs.{needs}
 use Rattle.run.proofs.running.run_to_end.Statement.{statement}

@@ -1,0 +1,45 @@
+// The flags of a side: bit a is array a.
+ghost use mathlib.Core.Path.{_≡_};
+ghost use mathlib.Core.Bool.{Bool, true, false, cond};
+ghost use Prim.Native.Nat.{ℕ, _≤_, _<_};
+ghost use lib.Dec.{eqb};
+ghost use Rattle.memories.specs.Flags.{mask, set-flags};
+
+// Whether an array's flag is set.
+pub fn flag_set(flags: u32, array: u8) -> bool
+    requires { ⌜ array < 32 ⌝ }
+    ensures { λ r. ⌜ ((n : ℕ) (flag : ℕ → Bool) → array < n → flags ≡ mask n flag → r ≡ flag array) ⌝ }
+{
+    flags & (1 << array) != 0
+}
+
+// The flags with an array's flag set.
+pub fn with_flag(flags: u32, array: u8) -> u32
+    requires { ⌜ array < 32 ⌝ }
+    ensures { λ r. ⌜ ((n : ℕ) (flag : ℕ → Bool) → array < n → flags ≡ mask n flag → r ≡ mask n (λ a. cond (eqb a array) true (flag a))) ⌝ }
+{
+    flags | (1 << array)
+}
+
+// The flags with an array's flag cleared.
+pub fn without_flag(flags: u32, array: u8) -> u32
+    requires { ⌜ array < 32 ⌝ }
+    ensures { λ r. ⌜ ((n : ℕ) (flag : ℕ → Bool) → array < n → flags ≡ mask n flag → r ≡ mask n (λ a. cond (eqb a array) false (flag a))) ⌝ }
+{
+    flags ^ (flags & (1 << array))
+}
+
+// The flags of so many arrays, all set.
+pub fn all_flags(arrays: u8) -> u32
+    requires { ⌜ arrays ≤ 32 ⌝ }
+    ensures { λ r. ⌜ r ≡ mask arrays (λ a. true) ⌝ }
+{
+    ((1u64 << arrays) - 1) as u32
+}
+
+// How many flags are set.
+pub fn flags_set(flags: u32) -> u32
+    ensures { λ r. ⌜ ((n : ℕ) (flag : ℕ → Bool) → flags ≡ mask n flag → r ≡ set-flags n flag) ⌝ }
+{
+    u32::count_ones(flags)
+}
