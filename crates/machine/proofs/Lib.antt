@@ -1,4 +1,3 @@
 -- Laws that the functions' proofs cite: where the runner stands, and what a step of it does
-pub mod Places
 pub mod Records
 pub mod Steps

@@ -35,10 +35,11 @@ use Rattle.acts.specs.declared.Acted.the-variants.{Done, Unmet}
 use Rattle.machine.specs.Choices.{choices-of}
 use Rattle.memories.specs.Inner.Ranges.{Room, Same}
 use Rattle.acts.specs.Inner.Acting.{Rooms, Low, Spans, Holds, Acts}
-use Rattle.machine.specs.Inner.Standing.{Spot, Runner, stored-with, tally-with, skipped, into, settled, past-record, chosen, ended-with, moved-to, tested, rest-of, left-of, weight, measure, Part, Placed, next-record, said-of, Stands, StepsAs, Steps, Stood, Reaches}
+use Rattle.places.specs.Inner.Places.{Spot, skipped, into, settled, chosen, rest-of, left-of, weight, Part, Placed}
+use Rattle.machine.specs.Inner.Standing.{Runner, stored-with, tally-with, past-record, ended-with, moved-to, tested, measure, next-record, said-of, Stands, StepsAs, Steps, Stood, Reaches}
 use Rattle.reading.specs.Inner.Cells.{from-of, to-of}
 use Rattle.machine.proofs.Records.{few-arrays, spans, inside, few-counted, few-moved}
-use Rattle.machine.proofs.Places.{left-into, starts-into, placed-into, into-used, settling, light}
+use Rattle.places.proofs.Places.{left-into, starts-into, placed-into, into-used, settling, light}
 
 -- the step of a configuration whose parts are known
 step-at : (arrays : Arrays) (k : Config) (b : Block) (cs : List Bool) → k .left ≡ b → k .choices ≡ cs → step arrays k ≡ step arrays (config b cs (k .state) (k .history))

@@ -7,23 +7,22 @@ ghost use lib.ListN.{length};
 ghost use Rattle.model.specs.Sides.{cells};
 ghost use Rattle.reading.specs.Bytes.{arrays-of, first-arm, second-arm};
 ghost use Rattle.memories.specs.Inner.Ranges.{Same};
-ghost use Rattle.machine.specs.Inner.Standing.{spot, runner, stored-with, tally-with, past-record, ended-with, moved-to, tested, measure, Stood, Steps};
+ghost use Rattle.places.specs.Inner.Places.{spot};
+ghost use Rattle.machine.specs.Inner.Standing.{runner, stored-with, tally-with, past-record, ended-with, moved-to, tested, measure, Stood, Steps};
 use acts::Acted;
 use acts::Stored;
 use acts::act;
 use model::Record;
 use model::Tally;
 use model::Verdict;
-use place::Place;
-use place::choose;
-use place::settle;
+use places::Place;
+use places::choose;
+use places::settle;
 use reading::Fields;
 use reading::first_cell;
 use reading::kinds::BRANCH;
 use reading::next_cell;
 use reading::record_at;
-
-pub mod place;
 
 // Where a run stands, its flags, and where the plan's bodies begin; the record that the last step executed. The verdict is that of a run that has ended, accepted while it runs.
 // The counters stand in the tally alone.

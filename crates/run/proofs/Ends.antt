@@ -23,7 +23,7 @@ use Rattle.machine.specs.Choices.{choices-of}
 use Rattle.memories.specs.Memories.{number-of}
 use Rattle.memories.specs.Inner.Ranges.{Same}
 use Rattle.machine.specs.Inner.Standing.{Runner, said-of, Over, Reaches}
-use Rattle.run.specs.Inner.Beginning.{end-with}
+use Rattle.run.specs.Inner.Ending.{end-with}
 
 -- a memory whose first n cells are as `held` says and whose others are as they were
 module _ (n : ℕ) (held : ℕ → ℕ) (before after : List ℕ) (room : n ≤ length before) (same : Same n before after) (here : (c : ℕ) → c < n → getD after c 0 ≡ held c) where

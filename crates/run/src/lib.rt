@@ -2,15 +2,15 @@
 ghost use mathlib.Core.Path.{_≡_};
 ghost use Rattle.format.specs.Opening.{opened};
 ghost use Rattle.run.specs.Running.{Runs, lent};
+use answers::end_of;
+use answers::no_end;
+use answers::ready;
 use contents::Opened;
 use model::Tally;
 use model::Verdict;
-use running::end_of;
-use running::no_end;
-use running::ready;
-use running::run_to_end;
+use steps::run_to_end;
 
-mod running;
+mod answers;
 
 // A run's answer; the figures are those of a run that is done, 0 otherwise.
 pub struct End {

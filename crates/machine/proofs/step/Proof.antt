@@ -9,7 +9,8 @@ use Rattle.reading.specs.Bytes.{array-count, arrays-of}
 use Rattle.format.proofs.Walking.{opened-facts}
 use Rattle.format.proofs.Acts.{record-inside}
 use Rattle.memories.proofs.Cells.{same-all, same-more}
-use Rattle.machine.specs.Inner.Standing.{Spot, runner, settled, stored-with}
+use Rattle.places.specs.Inner.Places.{Spot, settled}
+use Rattle.machine.specs.Inner.Standing.{runner, stored-with}
 use Rattle.reading.specs.Inner.Cells.{from-of, to-of}
 use Rattle.machine.proofs.Records.{on-array}
 use Rattle.machine.proofs.Steps.{fits-inside, record-fits, kind-is, not-deep, Able, at-end, at-test, able, at-record, ensured}
@@ -26,7 +27,7 @@ use Rattle.machine.proofs.moved.Reads as moved-reads
 use Rattle.reading.proofs.next_cell.Reads as next-cell-reads
 use Rattle.machine.proofs.over.Reads as over-reads
 use Rattle.machine.proofs.past.Reads as past-reads
-use Rattle.machine.proofs.place.settle.Reads as settle-reads
+use Rattle.places.proofs.settle.Reads as settle-reads
 use Rattle.machine.proofs.tally_of.Reads as tally-of-reads
 use Rattle.machine.proofs.test.Reads as test-reads
 

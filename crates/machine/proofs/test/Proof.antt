@@ -1,7 +1,7 @@
 -- `test` takes a choice, or ends the run where there is none.
 use borrow.Author.Tests.{eq-eqb, ne-eqb}
 use Rattle.machine.specs.Inner.Standing.{tested}
-use Rattle.machine.proofs.Places.{chosen-depth}
+use Rattle.places.proofs.Places.{chosen-depth}
 use borrow.Author.Needs.{needs}
 use Rattle.machine.proofs.test.Statement.{statement}
 use Rattle.machine.proofs.test.Tie as tie
@@ -9,8 +9,8 @@ use Rattle.machine.proofs.test.Reads as reads
 use Rattle.machine.proofs.test.Lts as lts
 use Rattle.machine.proofs.ended.Reads as ended-reads
 use Rattle.machine.proofs.moved.Reads as moved-reads
-use Rattle.machine.proofs.place.choose.Reads as choose-reads
-use Rattle.machine.proofs.place.settle.Reads as settle-reads
+use Rattle.places.proofs.choose.Reads as choose-reads
+use Rattle.places.proofs.settle.Reads as settle-reads
 
 cast-t10 : tie.Need-cast-t10
 cast-t10 c = search needs

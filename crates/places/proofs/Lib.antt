@@ -1,0 +1,2 @@
+-- Laws of places in a plan.
+pub mod Places

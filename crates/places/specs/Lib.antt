@@ -1,0 +1,2 @@
+-- A place in a plan.
+pub mod Inner

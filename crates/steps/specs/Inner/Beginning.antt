@@ -1,0 +1,40 @@
+-- No promise of an entry point rests on this text: how a run begins, and what its steps leave at its end.
+use Prim.Native.Nat.{ℕ, _≤_, _<_}
+use mathlib.Core.Path.{_≡_}
+use mathlib.Core.Bool.{true}
+use mathlib.Core.List.{List}
+use lib.ListN.{length, getD}
+use Rattle.model.specs.declared.Verdict.the-variants.{Accepted}
+use Rattle.model.specs.declared.Tally.{Tally}
+use Rattle.model.specs.Sides.{cells}
+use Rattle.contents.specs.declared.Opened.{Opened}
+use Rattle.reading.specs.Bytes.{kind-of, arrays-of}
+use Rattle.format.specs.Opening.{opening, opened}
+use Rattle.memories.specs.Flags.{mask}
+use Rattle.machine.specs.declared.Machine.{Machine}
+use Rattle.places.specs.Inner.Places.{started}
+use Rattle.machine.specs.Inner.Standing.{runner, Reaches}
+
+-- the first cells of the arrays stand at the front of the room
+pub record Fronted (starts room : List ℕ) : Type 0 where
+  pub size : length room ≡ 65
+  pub front : (a : ℕ) → a < 33 → getD room a 0 ≡ getD starts a 0
+
+-- before the first record
+abbrev pub first-machine : ℕ → ℕ → ℕ → Machine
+first-machine records arrays bodies = record { place = started records; flags = mask arrays (λ a. true); «other_flags» = 0; bodies = bodies; last = record { 0 = 0 }; verdict = Accepted; running = true }
+
+-- a machine whose room is no longer there has reached a configuration of the run
+pub record ReachesEnd (f choices : List ℕ) (m : Machine) (own others latest : List ℕ) (t : Tally) : Type 0 where
+  pub room : List ℕ
+  pub reaches : Reaches f choices (runner m room) own others latest t
+
+-- the file is a plain plan that opening has found to be o, and the run may begin
+pub record Ready (f : List ℕ) (o : Opened) (choices own others latest : List ℕ) : Type 0 where
+  pub found : o ≡ opened f
+  pub opens : Accepted ≡ opening f
+  pub kind : kind-of f ≡ 2
+  pub own-room : cells (arrays-of f) ≤ length own
+  pub others-room : cells (arrays-of f) ≤ length others
+  pub latest-room : cells (arrays-of f) ≤ length latest
+  pub few : length choices ≤ 65536
