@@ -1,18 +1,26 @@
 // Answers as lines, and in words.
 use crate::page::Page;
 use crate::page::filled;
+use crate::page::print;
 use crate::page::row;
 use crate::page::text;
 use model::Values;
 
 // The line of an answer: the file's kind (0 if it does not open), the answer's number, place or record, cell.
-pub fn answer_line(page: &mut Page, at: usize, kind: u8, v: Values) -> usize {
+fn answer_line(page: &mut Page, kind: u8, v: Values) -> usize {
     filled(
         page,
-        at,
+        0,
         b"# # # #|",
         &[kind as u64, v.number as u64, v.place as u64, v.cell as u64],
     )
+}
+
+// Writes that line, and answers whether all of it was taken.
+pub fn print_answer(fd: i32, kind: u8, v: Values) -> bool {
+    let mut page = [0u8; 4096];
+    let at = answer_line(&mut page, kind, v);
+    print(fd, &page, at)
 }
 
 // The numbers that the programs give in words, those of document 01, 'Numbers by the place where each is checked', and behind them the place, for

@@ -1,10 +1,11 @@
 // Reads a plan file from standard input, judges a declared plan, checks a plain one, and prints one line:
 // the file's kind (0 if it does not open), the answer (0 accepted), place or record, cell.
 ghost use Rattle.plancheck.specs.Lines.{LineOf};
-use console::answers::answer_line;
-use console::page::finish;
+use console::answers::print_answer;
+use console::fail;
 use input::ROOM;
 use input::read_plan;
+use libc::STDOUT_FILENO;
 use model::Values;
 use reading::kinds::PLAIN;
 
@@ -42,7 +43,7 @@ fn main() {
     }
     let n = input.size;
     let line = line_of(&room[..n]);
-    let mut page = [0u8; 4096];
-    let at = answer_line(&mut page, 0, line.kind, line.values);
-    finish(b"plancheck", &page, at);
+    if !print_answer(STDOUT_FILENO, line.kind, line.values) {
+        fail(b"plancheck", b"standard output");
+    }
 }

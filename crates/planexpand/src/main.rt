@@ -1,9 +1,8 @@
 // Reads a declared plan file from standard input and writes its expansion's file to standard output. At a refusal it writes one line to
 // standard error, as plancheck does: the file's kind (0 if it does not open), the answer's number, place, cell (0).
 ghost use Rattle.planexpand.specs.Expansions.{ExpansionOf};
-use console::answers::answer_line;
+use console::answers::print_answer;
 use console::fail;
-use console::page::print;
 use input::ROOM;
 use input::read_plan;
 use libc::STDERR_FILENO;
@@ -49,8 +48,6 @@ fn main() {
     }
     let values = e.values;
     if values.number != 0 {
-        let mut page = [0u8; 4096];
-        let at = answer_line(&mut page, 0, e.kind, values);
-        print(STDERR_FILENO, &page, at);
+        print_answer(STDERR_FILENO, e.kind, values);
     }
 }

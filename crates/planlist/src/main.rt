@@ -46,18 +46,18 @@ fn answer(page: &mut Page, plan: &[u8], body: u64) -> usize {
     body_answer(page, plan, body)
 }
 
-// Whether the arguments are as they should be: none, or a body's number.
+// Whether the arguments are as they should be, none or a body's number. Where they are not it says so on standard error.
 fn arguments_fit(body: u64) -> bool {
     let count = os::arg_count();
-    (count == 1) | ((count == 2) & (body != NO_NUMBER))
+    if (count == 1) | ((count == 2) & (body != NO_NUMBER)) {
+        return true;
+    }
+    io::write_all(STDERR_FILENO, b"usage: planlist [BODY] < PLAN\n");
+    false
 }
 
-fn main() {
-    let body = number_argument(1);
-    if !arguments_fit(body) {
-        io::write_all(STDERR_FILENO, b"usage: planlist [BODY] < PLAN\n");
-        return;
-    }
+// Lists what standard input gives.
+fn list(body: u64) {
     let mut room = [0u8; ROOM];
     let input = read_plan(b"planlist", &mut room);
     if input.failed {
@@ -67,4 +67,11 @@ fn main() {
     let mut page = [0u8; 4096];
     let at = answer(&mut page, &room[..n], body);
     finish(b"planlist", &page, at);
+}
+
+fn main() {
+    let body = number_argument(1);
+    if arguments_fit(body) {
+        list(body);
+    }
 }

@@ -13,9 +13,9 @@ use libc::STDERR_FILENO;
 use printing::report_lines;
 use reading::kinds::CELLS;
 use report::Ending;
-use report::Report;
 use report::report_of;
-use viewing::cell_count;
+use viewing::Cells;
+use viewing::NO_CELLS;
 use viewing::plan_view_lines;
 
 mod printing;
@@ -68,13 +68,7 @@ fn read_argument(i: usize, what: &[u8], room: &mut [u8]) -> Input
     read_file(what, &path[..n], room)
 }
 
-// The cells to view, from the third and the fourth argument.
-struct Cells {
-    first: u64,
-    end: u64,
-    asked: bool,
-}
-
+// The third and the fourth argument.
 fn cells_asked() -> Cells {
     Cells {
         first: number_argument(3),
@@ -83,21 +77,22 @@ fn cells_asked() -> Cells {
     }
 }
 
-// Whether the arguments are as they should be.
+// Whether the arguments are as they should be: two files, or two files and two numbers. Where they are not it says so on standard error.
 fn arguments_fit(cells: Cells) -> bool {
     let numbers = (cells.first != NO_NUMBER) & (cells.end != NO_NUMBER);
-    (os::arg_count() == 3) | (cells.asked & numbers)
+    if (os::arg_count() == 3) | (cells.asked & numbers) {
+        return true;
+    }
+    io::write_all(STDERR_FILENO, b"usage: planrun PLAN CHOICES [FIRST END]\n");
+    false
 }
 
-// Whether the run has begun.
-fn has_begun(r: Report) -> bool {
-    let how = r.ending;
-    match how {
-        Ending::Done => true,
-        Ending::Stopped => true,
-        Ending::Spent => true,
-        Ending::Refused => false,
-    }
+// The cells to view after a run that ended so: none after one that has not begun.
+fn cells_after(how: Ending, cells: Cells) -> Cells {
+    let Ending::Refused = how else {
+        return cells;
+    };
+    NO_CELLS
 }
 
 // What is printed of a plan, choices, and cells to view.
@@ -106,34 +101,46 @@ fn answer(page: &mut Page, plan: &[u8], choices: &[u8], cells: Cells) -> usize {
     let mut card = [0u64; CELLS];
     let mut latest = [0u64; CELLS];
     let r = report_of(plan, choices, &mut host, &mut card, &mut latest);
-    let begun = has_begun(r);
+    let how = r.ending;
     let at = report_lines(page, r);
-    if cells.asked & begun {
-        let n = cell_count(plan);
-        return plan_view_lines(page, at, &host, &card, &latest, n, cells.first, cells.end);
+    plan_view_lines(
+        page,
+        at,
+        plan,
+        &host,
+        &card,
+        &latest,
+        cells_after(how, cells),
+    )
+}
+
+// Runs a plan on the file of choices that the second argument names.
+fn run_plan(plan: &[u8], cells: Cells) {
+    let mut choices = [0u8; CHOICES_ROOM];
+    let input = read_argument(2, b"choices file", &mut choices);
+    if input.failed {
+        return;
     }
-    at
+    let n = input.size;
+    let mut page = [0u8; 4096];
+    let at = answer(&mut page, plan, &choices[..n], cells);
+    finish(b"planrun", &page, at);
+}
+
+// The same of the plan file that the first argument names.
+fn run_files(cells: Cells) {
+    let mut plan = [0u8; ROOM];
+    let input = read_argument(1, b"plan file", &mut plan);
+    if input.failed {
+        return;
+    }
+    let n = input.size;
+    run_plan(&plan[..n], cells);
 }
 
 fn main() {
     let cells = cells_asked();
-    if !arguments_fit(cells) {
-        io::write_all(STDERR_FILENO, b"usage: planrun PLAN CHOICES [FIRST END]\n");
-        return;
+    if arguments_fit(cells) {
+        run_files(cells);
     }
-    let mut plan = [0u8; ROOM];
-    let first = read_argument(1, b"plan file", &mut plan);
-    if first.failed {
-        return;
-    }
-    let mut choices = [0u8; CHOICES_ROOM];
-    let second = read_argument(2, b"choices file", &mut choices);
-    if second.failed {
-        return;
-    }
-    let n = first.size;
-    let m = second.size;
-    let mut page = [0u8; 4096];
-    let at = answer(&mut page, &plan[..n], &choices[..m], cells);
-    finish(b"planrun", &page, at);
 }

@@ -10,6 +10,19 @@ use report::Memory;
 use view::memory_view;
 use view::memory_view_answer;
 
+// The cells to view, where any are asked for.
+pub struct Cells {
+    pub first: u64,
+    pub end: u64,
+    pub asked: bool,
+}
+
+pub const NO_CELLS: Cells = Cells {
+    first: 0,
+    end: 0,
+    asked: false,
+};
+
 fn cell_line(page: &mut Page, at: usize, cell: u64, stamp: u64) -> usize {
     filled(page, at, b"cell # stamp #|", &[cell, stamp])
 }
@@ -44,19 +57,29 @@ fn view_lines<'a>(
     cell_lines(page, at, first, memory_view(host, card, latest, first, end))
 }
 
-// The same of the program's memories, of which the plan has the first n cells.
+// How many cells a plan has, at most as many as the memories; none where it does not open.
+fn cell_count(plan: &[u8]) -> usize
+    ensures { λ r. ⌜ r ≤ 4096 ⌝ }
+{
+    let o = format::open(plan);
+    let n = o.cells as usize;
+    if n < CELLS { n } else { CELLS }
+}
+
+// The same of the program's memories and the plan's cells, where they are asked for.
 pub fn plan_view_lines<'a>(
     page: &mut Page,
     at: usize,
+    plan: &[u8],
     host: &'a Memory,
     card: &'a Memory,
     latest: &'a Memory,
-    n: usize,
-    first: u64,
-    end: u64,
-) -> usize
-    requires { ⌜ n ≤ 4096 ⌝ }
-{
+    cells: Cells,
+) -> usize {
+    if !cells.asked {
+        return at;
+    }
+    let n = cell_count(plan);
     let on_host: &[u64] = host;
     let on_card: &[u64] = card;
     let last: &[u64] = latest;
@@ -66,16 +89,7 @@ pub fn plan_view_lines<'a>(
         &on_host[..n],
         &on_card[..n],
         &last[..n],
-        first,
-        end,
+        cells.first,
+        cells.end,
     )
-}
-
-// How many cells a plan has, at most as many as the memories; none where it does not open.
-pub fn cell_count(plan: &[u8]) -> usize
-    ensures { λ r. ⌜ r ≤ 4096 ⌝ }
-{
-    let o = format::open(plan);
-    let n = o.cells as usize;
-    if n < CELLS { n } else { CELLS }
 }
