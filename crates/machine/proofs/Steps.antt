@@ -36,7 +36,7 @@ use Rattle.machine.specs.Choices.{choices-of}
 use Rattle.memories.specs.Inner.Ranges.{Room, Same}
 use Rattle.acts.specs.Inner.Acting.{Rooms, Low, Spans, Holds, Acts}
 use Rattle.places.specs.Inner.Places.{Spot, skipped, into, settled, chosen, rest-of, left-of, weight, Part, Placed}
-use Rattle.machine.specs.Inner.Standing.{Runner, stored-with, tally-with, past-record, ended-with, moved-to, tested, measure, next-record, said-of, Stands, StepsAs, Steps, Stood, Reaches}
+use Rattle.machine.specs.Inner.Standing.{Runner, stored-with, tally-with, past-record, ended-with, moved-to, after-act, tally-after, tested, measure, next-record, said-of, Stands, StepsAs, Steps, Stood, Reaches}
 use Rattle.reading.specs.Inner.Cells.{from-of, to-of}
 use Rattle.machine.proofs.Records.{few-arrays, spans, inside, few-counted, few-moved}
 use Rattle.places.proofs.Places.{left-into, starts-into, placed-into, into-used, settling, light}
@@ -353,12 +353,8 @@ module _ (f choices : List ℕ) (m : Runner) (own others latest : List ℕ) (t :
             few = omega (arith, part .inside, few-records);
           }
 
-      abbrev After : Acted → List ℕ → List ℕ → List ℕ → Type 0
-      After (Done s) own′ others′ latest′ = Stepped (moved-to m (settled (past-record p)) (s .flags) (s .«other_flags»)) own′ others′ latest′ (tally-with s)
-      After (Unmet c) own′ others′ latest′ = Stepped (ended-with m (Stopped (record { 0 = p .at }) c)) own′ others′ latest′ t
-
       -- what the record did is a step of the run, or its end
-      pub at-record : (r : Acted) (own′ others′ latest′ : List ℕ) → Acts arrays (action-of x) (stored-with m t) own others latest r own′ others′ latest′ → After r own′ others′ latest′
+      pub at-record : (r : Acted) (own′ others′ latest′ : List ℕ) → Acts arrays (action-of x) (stored-with m t) own others latest r own′ others′ latest′ → Stepped (after-act m r) own′ others′ latest′ (tally-after t r)
       at-record (Done s) own′ others′ latest′ acts =
           let q = acts (k .state) (k .history) (w .holds) in
           at-act y s own′ others′ latest′ (q .0) (q .1) (few-moved arrays (action-of x) from to (able .spans) (able .rooms .few) (k .state) (k .history))

@@ -8,7 +8,7 @@ ghost use Rattle.model.specs.Sides.{cells};
 ghost use Rattle.reading.specs.Bytes.{arrays-of, first-arm, second-arm};
 ghost use Rattle.memories.specs.Inner.Ranges.{Same};
 ghost use Rattle.places.specs.Inner.Places.{spot};
-ghost use Rattle.machine.specs.Inner.Standing.{runner, stored-with, tally-with, past-record, ended-with, moved-to, tested, measure, Stood, Steps};
+ghost use Rattle.machine.specs.Inner.Standing.{runner, stored-with, past-record, after-act, tally-after, ended-with, moved-to, tested, measure, Stood, Steps};
 use acts::Acted;
 use acts::Stored;
 use acts::act;
@@ -124,14 +124,29 @@ fn acted_on(m: Machine, t: Tally) -> Stored
     }
 }
 
-// The tally of that.
-fn tally_of(s: Stored) -> Tally
-    ensures { λ r. ⌜ r ≡ tally-with s ⌝ }
+// Where the run stands after a record without arms: past it, or at its end where its need is unmet.
+fn after(m: Machine, r: Acted, room: &[u16]) -> Machine
+    requires { ⌜ (m .place .at < 1024) × (m .place .depth ≤ 16) × (length (now room) ≡ 65) ⌝ }
+    ensures { λ q. ⌜ runner q (now (room .entry)) ≡ after-act (runner m (now (room .entry))) r ⌝ }
 {
-    Tally {
-        reads: s.reads,
-        writes: s.writes,
-        moved: s.moved,
+    let p = m.place;
+    match r {
+        Acted::Done(s) => moved(m, settle(past(p), room), s.flags, s.other_flags),
+        Acted::Unmet(c) => ended(m, Verdict::Stopped(Record(p.at as u16), c)),
+    }
+}
+
+// The tally after it: where its need is unmet, as it was.
+fn tally_after(t: Tally, r: Acted) -> Tally
+    ensures { λ q. ⌜ q ≡ tally-after t r ⌝ }
+{
+    match r {
+        Acted::Done(s) => Tally {
+            reads: s.reads,
+            writes: s.writes,
+            moved: s.moved,
+        },
+        Acted::Unmet(_) => t,
     }
 }
 
@@ -165,13 +180,10 @@ pub fn step(
     let next = room[a + 1];
     let from = first_cell(x, first);
     let to = next_cell(x, first, next);
-    let before = acted_on(m, t);
-    match act(x, from, to, before, host, card, latest) {
-        Acted::Done(s) => Stepped {
-            machine: moved(m, settle(past(p), room), s.flags, s.other_flags),
-            tally: tally_of(s),
-        },
-        Acted::Unmet(c) => over(m, Verdict::Stopped(Record(p.at as u16), c), t),
+    let r = act(x, from, to, acted_on(m, t), host, card, latest);
+    Stepped {
+        machine: after(m, r, room),
+        tally: tally_after(t, r),
     }
 }
 

@@ -1,6 +1,4 @@
 -- `step` is one step of the definition of a run, it lowers the measure, and it leaves the cells past the plan's.
-use mathlib.Core.Path.{ap, _∙_}
-use mathlib.Core.List.{[]}
 use Prim.Native.Nat.{_+_, _≤_, _<_}
 use native.Mathlib.Omega.{arith}
 use lib.ListN.{getD}
@@ -9,7 +7,6 @@ use Rattle.reading.specs.Bytes.{array-count, arrays-of}
 use Rattle.format.proofs.Walking.{opened-facts}
 use Rattle.format.proofs.Acts.{record-inside}
 use Rattle.memories.proofs.Cells.{same-all, same-more}
-use Rattle.places.specs.Inner.Places.{Spot, settled}
 use Rattle.machine.specs.Inner.Standing.{runner, stored-with}
 use Rattle.reading.specs.Inner.Cells.{from-of, to-of}
 use Rattle.machine.proofs.Records.{on-array}
@@ -23,12 +20,8 @@ use Rattle.acts.proofs.act.Reads as act-reads
 use Rattle.reading.proofs.record_at.Reads as record-at-reads
 use Rattle.machine.proofs.acted_on.Reads as acted-on-reads
 use Rattle.reading.proofs.first_cell.Reads as first-cell-reads
-use Rattle.machine.proofs.moved.Reads as moved-reads
 use Rattle.reading.proofs.next_cell.Reads as next-cell-reads
 use Rattle.machine.proofs.over.Reads as over-reads
-use Rattle.machine.proofs.past.Reads as past-reads
-use Rattle.places.proofs.settle.Reads as settle-reads
-use Rattle.machine.proofs.tally_of.Reads as tally-of-reads
 use Rattle.machine.proofs.test.Reads as test-reads
 
 -- the place is before the end of its arm
@@ -121,35 +114,17 @@ act-requires c κs =
     let r = able-here (c .before .before .before .before .before .before) in
     (rw (c .before .before .before .acted-on .ensures (c .before .before .before .before .before .before .before .before .before .before .before .before .before .before .before .before .before .before .before .before .before .args .room .now)) (r .low), r .kind .0, r .kind .1, r .array, rw (c .before .before .before .before .before .first-cell .ensures, c .before .before .before .before .next-cell .ensures) (r .rooms))
 
-enum-known-s : tie.Need-enum-known-s
-enum-known-s c = search needs
+after-requires : tie.Need-after-requires
+after-requires c κs = let w = c .before .before .before .before .before .before .before .before .before .before .before .before .before .before .before .before .before .before .before .before .before .before .before .before .before .before .before .before .before .pre .1 .stands .placed in (able-here (c .before .before .before .before .before .before .before .before .before .before .before .before .before .before) .few, w .shallow, w .size)
 
-past-requires : tie.Need-past-requires
-past-requires c κs = able-here (c .before .before .before .before .before .before .before .before .before .before .before .before .before .before .before .before) .few
-
-settle-requires : tie.Need-settle-requires
-settle-requires c κs = let w = c .before .before .before .before .before .before .before .before .before .before .before .before .before .before .before .before .before .before .before .before .before .before .before .before .before .before .before .before .before .before .before .before .before .pre .1 .stands .placed in (rw (ap (λ (x : Spot). x .depth) (c .before .past .ensures [])) (w .shallow), w .size)
-
-moved-requires : tie.Need-moved-requires
-moved-requires c κs = let h = able-here (c .before .before .before .before .before .before .before .before .before .before .before .before .before .before .before .before .before .before .before) .few in omega arith
-
-tally-of-requires : tie.Need-tally-of-requires
-tally-of-requires c κs = search needs
-
-enum-known-c : tie.Need-enum-known-c
-enum-known-c c = search needs
-
-cast-t43 : tie.Need-cast-t43
-cast-t43 c = let h = able-here (c .before .before .before .before .before .before .before .before .before .before .before .before .before .before .before .before .before) .few in omega arith
-
-over-requires-2 : tie.Need-over-requires-2
-over-requires-2 c κs = search needs
+tally-after-requires : tie.Need-tally-after-requires
+tally-after-requires c κs = search needs
 
 same-length-2 : tie.Need-same-length-2
-same-length-2 c = c .before .before .before .before .before .before .before .before .before .before .before .before .before .before .act .ensures .1 .0 .size
+same-length-2 c = c .before .before .before .before .before .before .before .before .before .act .ensures .1 .0 .size
 
 same-length-3 : tie.Need-same-length-3
-same-length-3 c = c .before .before .before .before .before .before .before .before .before .before .before .before .before .before .act .ensures .1 .1 .0 .size
+same-length-3 c = c .before .before .before .before .before .before .before .before .before .act .ensures .1 .1 .0 .size
 
 same-length-4 : tie.Need-same-length-4
 same-length-4 c = search needs
@@ -159,41 +134,16 @@ same-length-5 c = search needs
 
 returns-3 : tie.Need-returns-3
 returns-3 c =
-    let a = c .before .before .before .before .before .before .before .before .before .before .before .before .before .before .before .before .before .before .before .before .before .before .before .before .before .before .before .before .before .before .before .before .before .before .before .before in
-    let n = c .before .before .before .before .before .before .before .before .before .before .before .before .before .before .before .before .before .before .before .before .before in
-    let r = able-here n in
-    let x = c .before .before .before .before .before .before .before .before .before .before .before .before .before .before .before .before .before .before .before .before .before .before .before .before .before .before .record-at in
-    let v = c .before .before .before .before .before .before .before .before .before .before .before .before .before .before .act in
-    let there = array-there (c .before .before .before .before .before .before .before .before .before .before .before .before .before .before .before .before .before .before .before .before .before .before .before) in
-    let acts = v .ensures .0 (arrays-of (a .args .plan .now)) (rw (c .before .before .before .before .before .before .before .before .before .before .before .before .before .before .before .before .before .before .before .before .first-cell .ensures, c .before .before .before .before .before .before .before .before .before .before .before .before .before .before .before .before .before .before .before .next-cell .ensures) (r .spans)) in
-    let held = rw (c .before .before .before .before .before .before .before .before .before .before .before .before .before .before .before .before .before .before .acted-on .ensures (a .args .room .now)) at acts in
-    let i : c .before .before .before .before .before .before .before .before .before .before .before .before .before .before .before .before .before .before .before .next-cell .result ≤ cells (arrays-of (a .args .plan .now)) = rw (c .before .before .before .before .before .before .before .before .before .before .before .before .before .before .before .before .before .before .before .next-cell .ensures) (r .inside) in
+    let a = c .before .before .before .before .before .before .before .before .before .before .before .before .before .before .before .before .before .before .before .before .before .before .before .before .before .before .before .before .before .before .before in
+    let r = able-here (c .before .before .before .before .before .before .before .before .before .before .before .before .before .before .before .before) in
+    let x = c .before .before .before .before .before .before .before .before .before .before .before .before .before .before .before .before .before .before .before .before .before .record-at in
+    let v = c .before .before .before .before .before .before .before .before .before .act in
+    let there = array-there (c .before .before .before .before .before .before .before .before .before .before .before .before .before .before .before .before .before .before) in
+    let acts = v .ensures .0 (arrays-of (a .args .plan .now)) (rw (c .before .before .before .before .before .before .before .before .before .before .before .before .before .before .before .first-cell .ensures, c .before .before .before .before .before .before .before .before .before .before .before .before .before .before .next-cell .ensures) (r .spans)) in
+    let held = rw (c .before .before .before .before .before .before .before .before .before .before .before .before .before .acted-on .ensures (a .args .room .now)) at acts in
+    let i : c .before .before .before .before .before .before .before .before .before .before .before .before .before .before .next-cell .result ≤ cells (arrays-of (a .args .plan .now)) = rw (c .before .before .before .before .before .before .before .before .before .before .before .before .before .before .next-cell .ensures) (r .inside) in
     ensured _ _ _ _ _ _ _ _ _ _ _ _ _ (a .pre .1)
-    (λ k w. rw (c .before .moved .ensures (a .args .room .now), c .before .before .settle .ensures ∙ ap settled (c .before .before .before .before .past .ensures (a .args .room .now)), c .tally-of .ensures) (rw (c .before .before .before .before .before .before .s .given .1) at (at-record _ _ _ _ _ _ _ (a .pre .0) k w (before-end (c .before .before .before .before .before .before .before .before .before .before .before .before .before .before .before .before .before .before .before .before .before .before .before .before .before .before .before)) _ (x .ensures) (r .kind .1) _ _ (a .pre .1 .stands .starts .first _ (omega arith)) (a .pre .1 .stands .starts .first _ (omega arith)) (v .result) _ _ _ held)))
-    (same-more i (v .ensures .1 .0)) (same-more i (v .ensures .1 .1 .0)) (same-more i (v .ensures .1 .1 .1))
-
-same-length-6 : tie.Need-same-length-6
-same-length-6 c = search needs
-
-same-length-7 : tie.Need-same-length-7
-same-length-7 c = search needs
-
-same-length-8 : tie.Need-same-length-8
-same-length-8 c = search needs
-
-returns-4 : tie.Need-returns-4
-returns-4 c =
-    let a = c .before .before .before .before .before .before .before .before .before .before .before .before .before .before .before .before .before .before .before .before .before .before .before .before .before .before .before .before .before .before .before .before .before in
-    let n = c .before .before .before .before .before .before .before .before .before .before .before .before .before .before .before .before .before .before in
-    let r = able-here n in
-    let x = c .before .before .before .before .before .before .before .before .before .before .before .before .before .before .before .before .before .before .before .before .before .before .before .record-at in
-    let v = c .before .before .before .before .before .before .before .before .before .before .before .act in
-    let there = array-there (c .before .before .before .before .before .before .before .before .before .before .before .before .before .before .before .before .before .before .before .before) in
-    let acts = v .ensures .0 (arrays-of (a .args .plan .now)) (rw (c .before .before .before .before .before .before .before .before .before .before .before .before .before .before .before .before .before .first-cell .ensures, c .before .before .before .before .before .before .before .before .before .before .before .before .before .before .before .before .next-cell .ensures) (r .spans)) in
-    let held = rw (c .before .before .before .before .before .before .before .before .before .before .before .before .before .before .before .acted-on .ensures (a .args .room .now)) at acts in
-    let i : c .before .before .before .before .before .before .before .before .before .before .before .before .before .before .before .before .next-cell .result ≤ cells (arrays-of (a .args .plan .now)) = rw (c .before .before .before .before .before .before .before .before .before .before .before .before .before .before .before .before .next-cell .ensures) (r .inside) in
-    ensured _ _ _ _ _ _ _ _ _ _ _ _ _ (a .pre .1)
-    (λ k w. rw (c .over2 .ensures .0 (a .args .room .now), c .over2 .ensures .1) (rw (c .before .before .before .c .given .1) at (at-record _ _ _ _ _ _ _ (a .pre .0) k w (before-end (c .before .before .before .before .before .before .before .before .before .before .before .before .before .before .before .before .before .before .before .before .before .before .before .before)) _ (x .ensures) (r .kind .1) _ _ (a .pre .1 .stands .starts .first _ (omega arith)) (a .pre .1 .stands .starts .first _ (omega arith)) (v .result) _ _ _ held)))
+    (λ k w. rw (c .before .after .ensures, c .tally-after .ensures) (at-record _ _ _ _ _ _ _ (a .pre .0) k w (before-end (c .before .before .before .before .before .before .before .before .before .before .before .before .before .before .before .before .before .before .before .before .before .before)) _ (x .ensures) (r .kind .1) _ _ (a .pre .1 .stands .starts .first _ (omega arith)) (a .pre .1 .stands .starts .first _ (omega arith)) (v .result) _ _ _ held))
     (same-more i (v .ensures .1 .0)) (same-more i (v .ensures .1 .1 .0)) (same-more i (v .ensures .1 .1 .1))
 
 pub step-spec : {M : Type 1} → statement M
@@ -216,20 +166,10 @@ step-spec =
     next-cell-requires
     acted-on-requires
     act-requires
-    enum-known-s
-    past-requires
-    settle-requires
-    moved-requires
-    tally-of-requires
-    enum-known-c
-    cast-t43
-    over-requires-2
+    after-requires
+    tally-after-requires
     same-length-2
     same-length-3
     same-length-4
     same-length-5
-    returns-3
-    same-length-6
-    same-length-7
-    same-length-8
-    returns-4)
+    returns-3)

@@ -7,7 +7,7 @@ use lib.Dec.{eqb}
 use lib.ListN.{length, getD, drop}
 use Rattle.model.specs.declared.Record.{Record}
 use Rattle.model.specs.declared.Verdict.{Verdict}
-use Rattle.model.specs.declared.Verdict.the-variants.{Accepted, Refused}
+use Rattle.model.specs.declared.Verdict.the-variants.{Accepted, Stopped, Refused}
 use Rattle.model.specs.declared.Tally.{Tally}
 use Rattle.model.specs.Sides.{host}
 use Rattle.model.specs.Blocks.{Block}
@@ -18,6 +18,8 @@ use Rattle.reading.specs.Bytes.{arrays-of}
 use Rattle.format.specs.Plans.{plan-of}
 use Rattle.format.specs.Inner.Walks.{Plain, Starts}
 use Rattle.acts.specs.declared.Stored.{Stored}
+use Rattle.acts.specs.declared.Acted.{Acted}
+use Rattle.acts.specs.declared.Acted.the-variants.{Done, Unmet}
 use Rattle.places.specs.Inner.Places.{Spot, spot, settled, chosen, left-of, weight, Placed}
 use Rattle.machine.specs.declared.Machine.{Machine}
 use Rattle.machine.specs.Choices.{choices-of}
@@ -56,6 +58,16 @@ ended-with m v = record { place = m .place; flags = m .flags; others = m .others
 -- the run has moved on from a record
 abbrev pub moved-to : Runner → Spot → ℕ → ℕ → Runner
 moved-to m p flags others = record { place = p; flags = flags; others = others; bodies = m .bodies; last = record { 0 = m .place .at }; verdict = m .verdict; running = m .running }
+
+-- where the run stands after a record without arms
+abbrev pub after-act : Runner → Acted → Runner
+after-act m (Done s) = moved-to m (settled (past-record (m .place))) (s .flags) (s .«other_flags»)
+after-act m (Unmet c) = ended-with m (Stopped (record { 0 = m .place .at }) c)
+
+-- the tally after it
+abbrev pub tally-after : Tally → Acted → Tally
+tally-after t (Done s) = tally-with s
+tally-after t (Unmet c) = t
 
 -- a branch, or a test of a loop
 unfoldable pub tested : Runner → Fields → List ℕ → Runner
