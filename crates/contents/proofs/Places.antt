@@ -1,13 +1,13 @@
 -- The places one after the other: what each adds to the answer, and what is found where none of them stops.
-use mathlib.Core.Path.{_≡_, refl, sym, ap, _∙_}
-use mathlib.Core.List.{List, _++_, append-assoc}
+use mathlib.Core.Path.{_≡_, refl, ap, _∙_}
+use mathlib.Core.List.{List}
 use Prim.Native.Nat.{ℕ, _≤_, _<_}
 use lib.ListN.{length}
 use borrow.Author.Tests.{lt-ltb, le-ltb}
 use Rattle.model.specs.declared.Verdict.{Verdict}
 use Rattle.model.specs.declared.Verdict.the-variants.{Accepted, Stopped, Refused}
 use Rattle.contents.specs.declared.Opened.{Opened}
-use Rattle.model.specs.Rows.{Row, first, each}
+use Rattle.model.specs.Rows.{first, each}
 use Rattle.reading.specs.Bytes.{array-count, body-count, bodies-at}
 use Rattle.frame.specs.Frame.{header-rows, tail-rows}
 use Rattle.contents.specs.Contents.{array-rows, body-rows, contents-rows, front-rows}
@@ -20,19 +20,32 @@ module _ (f : List ℕ) where
   unfolding front-rows
   front-header v nay e = stop _ _ v nay e
 
-  pub front-short : Accepted ≡ first (header-rows f) → length f < bodies-at f → Refused 3 0 ≡ first (front-rows f)
-  unfolding front-rows contents-rows
-  front-short h l = pass (header-rows f) _ _ h (holds _ _ _ _ (lt-ltb _ _ l))
+  module _ (h : Accepted ≡ first (header-rows f)) where
+    pub front-short : length f < bodies-at f → Refused 3 0 ≡ first (front-rows f)
+    unfolding front-rows contents-rows
+    front-short l = pass (header-rows f) _ _ h (holds _ _ _ _ (lt-ltb _ _ l))
 
-  -- past number 3 the entries and the tail answer
-  abbrev entry-rows : List Row
-  entry-rows = each (array-count f) (array-rows f) ++ (each (body-count f) (body-rows f) ++ tail-rows f)
+    module _ (l : bodies-at f ≤ length f) where
+      arrays-are : (v : Verdict) → (v ≡ Accepted → ⊥) → v ≡ first (each (array-count f) (array-rows f)) → v ≡ first (contents-rows f)
+      unfolding contents-rows
+      arrays-are v nay e = skips _ _ _ _ v (le-ltb _ _ l) (stop (each (array-count f) (array-rows f)) _ v nay e)
 
-  pub front-entries : Accepted ≡ first (header-rows f) → bodies-at f ≤ length f → first entry-rows ≡ first (front-rows f)
-  unfolding front-rows contents-rows
-  front-entries h l =
-      let a = each (array-count f) (array-rows f) in
-      pass (header-rows f) _ _ h (skips _ _ _ _ _ (le-ltb _ _ l) (ap first (sym (append-assoc a (each (body-count f) (body-rows f)) (tail-rows f)))))
+      pub front-arrays : (v : Verdict) → (v ≡ Accepted → ⊥) → v ≡ first (each (array-count f) (array-rows f)) → v ≡ first (front-rows f)
+      unfolding front-rows
+      front-arrays v nay e = pass (header-rows f) _ v h (stop (contents-rows f) _ v nay (arrays-are v nay e))
+
+      module _ (a : Accepted ≡ first (each (array-count f) (array-rows f))) where
+        bodies-are : (v : Verdict) → v ≡ first (each (body-count f) (body-rows f)) → v ≡ first (contents-rows f)
+        unfolding contents-rows
+        bodies-are v e = skips _ _ _ _ v (le-ltb _ _ l) (pass (each (array-count f) (array-rows f)) _ v a e)
+
+        pub front-bodies : (v : Verdict) → (v ≡ Accepted → ⊥) → v ≡ first (each (body-count f) (body-rows f)) → v ≡ first (front-rows f)
+        unfolding front-rows
+        front-bodies v nay e = pass (header-rows f) _ v h (stop (contents-rows f) _ v nay (bodies-are v e))
+
+        pub front-tail : Accepted ≡ first (each (body-count f) (body-rows f)) → (v : Verdict) → v ≡ first (tail-rows f) → v ≡ first (front-rows f)
+        unfolding front-rows
+        front-tail b v e = pass (header-rows f) _ v h (pass (contents-rows f) _ v (bodies-are _ b) e)
 
   -- what is found, by the answer
   pub nothing : (r : Opened) (v w : Verdict) → (v ≡ Accepted → ⊥) → r ≡ nothing-found v → v ≡ w → r ≡ found-by f w
@@ -43,11 +56,11 @@ module _ (f : List ℕ) where
       go (Stopped r c) nay = refl
       go (Refused n p) nay = refl
 
-  pub all : (verdict : Verdict) (kind arrays bodies cells records offset : ℕ) (array-starts body-starts declarations : List ℕ)
-      → verdict ≡ Accepted → kind ≡ found f .kind → arrays ≡ found f .arrays → bodies ≡ found f .bodies → cells ≡ found f .cells → records ≡ found f .records → offset ≡ found f .offset
+  pub all : (kind arrays bodies cells records offset : ℕ) (array-starts body-starts declarations : List ℕ)
+      → kind ≡ found f .kind → arrays ≡ found f .arrays → bodies ≡ found f .bodies → cells ≡ found f .cells → records ≡ found f .records → offset ≡ found f .offset
       → array-starts ≡ found f .«array_starts» → body-starts ≡ found f .«body_starts» → declarations ≡ found f .declarations
-      → _≡_ {A = Opened} (record { verdict = verdict; kind = kind; arrays = arrays; bodies = bodies; cells = cells; records = records; offset = offset; «array_starts» = array-starts; «body_starts» = body-starts; declarations = declarations }) (found f)
-  all verdict kind arrays bodies cells records offset array-starts body-starts declarations e₀ e₁ e₂ e₃ e₄ e₅ e₆ e₇ e₈ e₉ = rw (e₀, e₁, e₂, e₃, e₄, e₅, e₆, e₇, e₈, e₉)
+      → _≡_ {A = Opened} (record { verdict = Accepted; kind = kind; arrays = arrays; bodies = bodies; cells = cells; records = records; offset = offset; «array_starts» = array-starts; «body_starts» = body-starts; declarations = declarations }) (found f)
+  all kind arrays bodies cells records offset array-starts body-starts declarations e₁ e₂ e₃ e₄ e₅ e₆ e₇ e₈ e₉ = rw (e₁, e₂, e₃, e₄, e₅, e₆, e₇, e₈, e₉)
 
   pub answer : (v : Verdict) → found-by f v .verdict ≡ v
   answer Accepted = refl

@@ -1,13 +1,11 @@
 // Numbers 3 to 5, the contents, and numbers 1 to 7 together.
 ghost use mathlib.Core.Path.{_≡_};
 ghost use mathlib.Core.Bool.{true, cond};
-ghost use mathlib.Core.List.{_++_};
 ghost use Prim.Native.Nat.{_+_, _≤_, _<_};
 ghost use lib.ListN.{length};
 ghost use Rattle.model.specs.declared.Verdict.the-variants.{Accepted, Refused};
 ghost use Rattle.model.specs.Rows.{first, each};
 ghost use Rattle.reading.specs.Bytes.{array-count, body-count, records-in, declarations-in, first-record, record-count, bodies-at};
-ghost use Rattle.frame.specs.Frame.{tail-rows};
 ghost use Rattle.contents.specs.Contents.{array-rows, body-rows, front-rows};
 ghost use Rattle.contents.specs.Found.{nothing-found, found, found-by};
 use frame::header;
@@ -168,50 +166,6 @@ pub fn nothing_found(v: Verdict) -> Opened
     }
 }
 
-// Numbers 4 to 7, by the answers of the entries.
-fn contents_verdict(plan: &[u8], offset: usize, a: Verdict, b: Verdict, records: u16) -> Verdict
-    requires { ⌜ (offset ≡ bodies-at (now plan)) × (offset < 2048) × (a ≡ first (each (array-count (now plan)) (array-rows (now plan)))) × (b ≡ first (each (body-count (now plan)) (body-rows (now plan)))) × (b ≡ Accepted → (records ≡ record-count (now plan)) × (records ≤ 1024)) ⌝ }
-    ensures { λ v. ⌜ v ≡ first (each (array-count (now (plan .entry))) (array-rows (now (plan .entry))) ++ (each (body-count (now (plan .entry))) (body-rows (now (plan .entry))) ++ tail-rows (now (plan .entry)))) ⌝ }
-{
-    let Verdict::Accepted = a else {
-        return a;
-    };
-    let Verdict::Accepted = b else {
-        return b;
-    };
-    tail(plan, offset, records as usize)
-}
-
-// Numbers 4 to 7, where number 3 does not hold, and what is found.
-fn contents_outline(plan: &[u8], offset: usize) -> Opened
-    requires { ⌜ (array-count (now plan) ≤ 32) × (body-count (now plan) ≤ 32) × (bodies-at (now plan) ≤ length (now plan)) × (offset ≡ bodies-at (now plan)) × (offset < 2048) ⌝ }
-    ensures { λ r. ⌜ r ≡ found-by (now (plan .entry)) (first (each (array-count (now (plan .entry))) (array-rows (now (plan .entry))) ++ (each (body-count (now (plan .entry))) (body-rows (now (plan .entry))) ++ tail-rows (now (plan .entry))))) ⌝ }
-{
-    let a = array_entries(plan);
-    let b = body_entries(plan);
-    let av = a.verdict;
-    let bv = b.verdict;
-    let v = contents_verdict(plan, offset, av, bv, b.records);
-    let Verdict::Accepted = v else {
-        return nothing_found(v);
-    };
-    let array_starts = a.starts;
-    let body_starts = b.starts;
-    let declarations = b.declarations;
-    Opened {
-        verdict: v,
-        kind: byte(plan, 0),
-        arrays: byte(plan, 1),
-        bodies: byte(plan, 2),
-        cells: a.cells,
-        records: b.records,
-        offset: offset as u16,
-        array_starts: array_starts,
-        body_starts: body_starts,
-        declarations: declarations,
-    }
-}
-
 // Numbers 1 to 7, and what is found in a file in which none of them holds.
 pub fn outline(plan: &[u8]) -> Opened
     ensures { λ r. ⌜ r ≡ found-by (now (plan .entry)) (first (front-rows (now (plan .entry)))) ⌝ }
@@ -220,10 +174,38 @@ pub fn outline(plan: &[u8]) -> Opened
     let Verdict::Accepted = h else {
         return nothing_found(h);
     };
-    let bodies = byte(plan, 2) as usize;
-    let offset = entry_at(plan, bodies);
+    let bodies = byte(plan, 2);
+    let offset = entry_at(plan, bodies as usize);
     if plan.len() < offset {
         return nothing_found(Verdict::Refused(3, 0));
     }
-    contents_outline(plan, offset)
+    let a = array_entries(plan);
+    let av = a.verdict;
+    let Verdict::Accepted = av else {
+        return nothing_found(av);
+    };
+    let b = body_entries(plan);
+    let bv = b.verdict;
+    let Verdict::Accepted = bv else {
+        return nothing_found(bv);
+    };
+    let t = tail(plan, offset, b.records as usize);
+    let Verdict::Accepted = t else {
+        return nothing_found(t);
+    };
+    let array_starts = a.starts;
+    let body_starts = b.starts;
+    let declarations = b.declarations;
+    Opened {
+        verdict: Verdict::Accepted,
+        kind: byte(plan, 0),
+        arrays: byte(plan, 1),
+        bodies: bodies,
+        cells: a.cells,
+        records: b.records,
+        offset: offset as u16,
+        array_starts: array_starts,
+        body_starts: body_starts,
+        declarations: declarations,
+    }
 }

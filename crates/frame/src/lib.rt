@@ -42,14 +42,14 @@ pub fn tail(plan: &[u8], offset: usize, records: usize) -> Verdict
     requires { ⌜ (offset ≡ bodies-at (now plan)) × (offset ≤ 2048) × (records ≡ record-count (now plan)) × (records ≤ 1024) ⌝ }
     ensures { λ r. ⌜ r ≡ first (tail-rows (now (plan .entry))) ⌝ }
 {
-    let n = offset + 8 * records;
-    if plan.len() != n + 2 {
+    if plan.len() != offset + 8 * records + 2 {
         return Verdict::Refused(6, 0);
     }
+    let n = plan.len() - 2;
     let s = check_sums(&plan[..n]);
     let plain = byte(plan, n);
     let weighted = byte(plan, n + 1);
-    if (plain != s.plain) | (weighted != s.weighted) {
+    if !((plain == s.plain) & (weighted == s.weighted)) {
         return Verdict::Refused(7, 0);
     }
     Verdict::Accepted

@@ -6,17 +6,20 @@ use borrow.Author.Needs.{needs}
 use Rattle.frame.proofs.tail.Statement.{statement}
 use Rattle.frame.proofs.tail.Tie as tie
 
-mul-n : tie.Need-mul-n
-mul-n c = search needs
-
-add-n : tie.Need-add-n
-add-n c = search needs
+mul-if1 : tie.Need-mul-if1
+mul-if1 c = search needs
 
 add-if1 : tie.Need-add-if1
 add-if1 c = search needs
 
+add-if1-2 : tie.Need-add-if1-2
+add-if1-2 c = search needs
+
 returns : tie.Need-returns
 returns c = length-stop _ _ _ (c .before .before .pre .0) (c .before .before .pre .2) (c .if1 .taken)
+
+sub-n : tie.Need-sub-n
+sub-n c = search needs
 
 slice-aggregate-check-sums : tie.Need-slice-aggregate-check-sums
 slice-aggregate-check-sums c = simp length-take (omega arith)
@@ -43,10 +46,11 @@ pub tail-spec : {M : Type 1} → statement M
 tail-spec =
     tie.close
     (tie.spec
-    mul-n
-    add-n
+    mul-if1
     add-if1
+    add-if1-2
     returns
+    sub-n
     slice-aggregate-check-sums
     check-sums-requires
     byte-requires
