@@ -1,25 +1,20 @@
 // The arguments that are numbers.
-ghost use Prim.Native.Nat.{_≤_};
 
 // What is answered where a text is no number.
 pub const NO_NUMBER: u64 = u64::MAX;
 
-// The value of a digit.
-fn digit(b: u8) -> u64
-    ensures { λ r. ⌜ r ≤ 255 ⌝ }
-{
-    if b < b'0' { 0 } else { (b - b'0') as u64 }
-}
-
 // A number with one more digit; NO_NUMBER behind another character, behind seven digits and behind NO_NUMBER.
 fn with_digit(n: u64, b: u8) -> u64 {
-    if (b < b'0') | (b'9' < b) {
+    if b < b'0' {
+        return NO_NUMBER;
+    }
+    if b'9' < b {
         return NO_NUMBER;
     }
     if 1000000 < n {
         return NO_NUMBER;
     }
-    n * 10 + digit(b)
+    n * 10 + ((b - b'0') as u64)
 }
 
 // The number that a text gives in decimal; NO_NUMBER of an empty text, of one with another character, and of one past ten million.

@@ -68,20 +68,15 @@ fn number(page: &mut Page, at: usize, n: u64) -> usize {
     text(page, at, &digits[..k])
 }
 
-// Number i of these, where there is such a number.
-fn one_of(page: &mut Page, at: usize, numbers: &[u64], i: usize) -> usize {
+// What stands for a byte of a text: number i for `#`, where there is such a number, and the end of the line for `|`.
+fn item(page: &mut Page, at: usize, b: u8, numbers: &[u64], i: usize) -> usize {
+    if b != b'#' {
+        return byte(page, at, if b == b'|' { b'\n' } else { b });
+    }
     if i < numbers.len() {
         return number(page, at, numbers[i]);
     }
     at
-}
-
-// What stands for a byte of a text: number i for `#`, the end of the line for `|`.
-fn item(page: &mut Page, at: usize, b: u8, numbers: &[u64], i: usize) -> usize {
-    if b == b'#' {
-        return one_of(page, at, numbers, i);
-    }
-    byte(page, at, if b == b'|' { b'\n' } else { b })
 }
 
 // The number that is next behind a byte of a text.

@@ -15,9 +15,6 @@ use listing::listed;
 use model::Verdict;
 use model::values_of;
 
-mod block;
-mod listing;
-
 // What is printed for a plan file of any bytes.
 fn plan_answer(page: &mut Page, plan: &[u8]) -> usize {
     let o = open(plan);

@@ -1,7 +1,7 @@
 -- `body_answer`: where the body view accepts, the file opens and has the body.
 use mathlib.Core.Path.{sym, _∙_}
 use Rattle.format.proofs.Walking.{verdict-is, found-is}
-use Rattle.planlist.proofs.Found.{viewed-body}
+use Rattle.listing.proofs.Found.{viewed-body}
 use borrow.Author.Needs.{needs}
 use Rattle.planlist.proofs.body_answer.Statement.{statement}
 use Rattle.planlist.proofs.body_answer.Tie as tie

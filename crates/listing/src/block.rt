@@ -2,7 +2,7 @@
 ghost use mathlib.Core.Path.{_≡_};
 ghost use Prim.Native.Nat.{_+_, _*_, _≤_, _<_};
 ghost use lib.ListN.{length};
-ghost use Rattle.planlist.specs.Inner.Bodies.{fields-in, Listable};
+ghost use Rattle.listing.specs.Inner.Bodies.{fields-in, Listable};
 use console::page::Page;
 use lines::records::else_line;
 use lines::records::record_lines;

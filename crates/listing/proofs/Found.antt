@@ -21,7 +21,7 @@ use Rattle.reading.proofs.Tables.{next-cell, next-record, first-rises}
 use Rattle.format.proofs.Views.{view-some}
 use Rattle.format.proofs.Walking.{steps, opened-facts, array-start, body-start}
 use Rattle.format.proofs.Acts.{arms}
-use Rattle.planlist.specs.Inner.Bodies.{fields-in, Listable}
+use Rattle.listing.specs.Inner.Bodies.{fields-in, Listable}
 
 -- entry a of a table of first numbers: it is one of 32, and the next entry is no smaller
 pub record Entry (starts : List ℕ) (a : ℕ) : Type 0 where

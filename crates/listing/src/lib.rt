@@ -5,7 +5,7 @@ ghost use Rattle.model.specs.declared.Verdict.the-variants.{Accepted};
 ghost use Rattle.reading.specs.Bytes.{body-count};
 ghost use Rattle.format.specs.Opening.{opening};
 ghost use Rattle.contents.specs.Found.{found};
-use crate::block::block;
+use block::block;
 use console::page::Page;
 use contents::Opened;
 use format::body_view;
@@ -13,6 +13,8 @@ use lines::parts::ARRAY;
 use lines::parts::BODY;
 use lines::parts::heading;
 use lines::parts::part_line;
+
+mod block;
 
 // A line for each array.
 fn arrays(page: &mut Page, at: usize, plan: &[u8], o: Opened) -> usize

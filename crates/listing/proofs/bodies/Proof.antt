@@ -7,8 +7,8 @@ use Rattle.reading.specs.Bytes.{body-count}
 use Rattle.contents.specs.declared.Opened.{Opened}
 use Rattle.contents.specs.Found.{found}
 use borrow.Author.Needs.{needs}
-use Rattle.planlist.proofs.listing.bodies.Statement.{statement}
-use Rattle.planlist.proofs.listing.bodies.Tie as tie
+use Rattle.listing.proofs.bodies.Statement.{statement}
+use Rattle.listing.proofs.bodies.Tie as tie
 
 abbrev Inv-loop : tie.InvT-loop
 Inv-loop page₀ at plan o bodies waiting₀ b₀ page waiting b = b ≤ bodies

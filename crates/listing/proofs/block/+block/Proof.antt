@@ -2,20 +2,20 @@
 use borrow.Author.Needs.{needs}
 use Prim.Native.Nat.{ℕ, _-_, _≤_, _<_}
 use native.Mathlib.Omega.{arith}
-use Rattle.planlist.specs.Inner.Bodies.{Listable}
-use Rattle.planlist.proofs.Found.{Parts, parts}
+use Rattle.listing.specs.Inner.Bodies.{Listable}
+use Rattle.listing.proofs.Found.{Parts, parts}
 use borrow.Fn.Kinds.{In}
 use borrow.Fn.PlainCycle.{Measures, is, falls, and}
-use Rattle.planlist.proofs.block.block.Reads as block
-use Rattle.planlist.proofs.block.block.Kinds as block-kinds
-use Rattle.planlist.proofs.block.+block.Lts-block as block-lts
-use Rattle.planlist.proofs.block.record_in.Reads as record-in-reads
+use Rattle.listing.proofs.block.block.Reads as block
+use Rattle.listing.proofs.block.block.Kinds as block-kinds
+use Rattle.listing.proofs.block.+block.Lts-block as block-lts
+use Rattle.listing.proofs.block.record_in.Reads as record-in-reads
 use Rattle.reading.proofs.first_arm.Reads as first-arm-reads
 use Rattle.reading.proofs.second_arm.Reads as second-arm-reads
 use Rattle.lines.proofs.records.else_line.Reads as else-line-reads
 use Rattle.lines.proofs.records.record_lines.Reads as record-lines-reads
-use Rattle.planlist.proofs.block.+block.{statement}
-use Rattle.planlist.proofs.block.+block.Tie.{close}
+use Rattle.listing.proofs.block.+block.{statement}
+use Rattle.listing.proofs.block.+block.Tie.{close}
 
 abbrev μ-block : Measures 2 block-kinds.ps ℕ
 μ-block κs a = a .1 .1 .1 .1 .1 .1 .0 - a .1 .1 .1 .1 .1 .0

@@ -1,9 +1,9 @@
 -- `body_lines`: the body's records can be walked in its own bytes.
 use native.Mathlib.Omega.{arith}
-use Rattle.planlist.proofs.Found.{Stands, body-stands}
+use Rattle.listing.proofs.Found.{Stands, body-stands}
 use borrow.Author.Needs.{needs}
-use Rattle.planlist.proofs.listing.body_lines.Statement.{statement}
-use Rattle.planlist.proofs.listing.body_lines.Tie as tie
+use Rattle.listing.proofs.body_lines.Statement.{statement}
+use Rattle.listing.proofs.body_lines.Tie as tie
 
 -- where the body stands
 stands : (c : tie.Start) → Stands (c .args .plan .now) (c .args .o .«body_starts») (c .args .b)

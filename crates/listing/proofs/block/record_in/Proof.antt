@@ -1,8 +1,8 @@
 -- `record_in` reads the fields from the body's bytes.
-use Rattle.planlist.specs.Inner.Bodies.{fields-in}
+use Rattle.listing.specs.Inner.Bodies.{fields-in}
 use borrow.Author.Needs.{needs}
-use Rattle.planlist.proofs.block.record_in.Statement.{statement}
-use Rattle.planlist.proofs.block.record_in.Tie as tie
+use Rattle.listing.proofs.block.record_in.Statement.{statement}
+use Rattle.listing.proofs.block.record_in.Tie as tie
 
 mul-at : tie.Need-mul-at
 mul-at c = search needs

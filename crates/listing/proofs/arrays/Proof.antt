@@ -1,10 +1,10 @@
 -- `arrays`: each array in turn. The measure is the number of arrays left.
 use Prim.Native.Nat.{_≤_, _-_}
 use native.Mathlib.Omega.{arith}
-use Rattle.planlist.proofs.Found.{Entry, array-at}
+use Rattle.listing.proofs.Found.{Entry, array-at}
 use borrow.Author.Needs.{needs}
-use Rattle.planlist.proofs.listing.arrays.Statement.{statement}
-use Rattle.planlist.proofs.listing.arrays.Tie as tie
+use Rattle.listing.proofs.arrays.Statement.{statement}
+use Rattle.listing.proofs.arrays.Tie as tie
 
 abbrev Inv-loop : tie.InvT-loop
 Inv-loop page₀ at plan arrays starts waiting₀ a₀ page waiting a = a ≤ arrays
