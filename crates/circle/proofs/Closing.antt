@@ -34,7 +34,7 @@ use Rattle.expand.specs.Expanded.{expand-answer}
 use Rattle.circle.proofs.Opens.{expansion-opens}
 use Rattle.circle.proofs.Runs.{file-demand3}
 use Rattle.circle.proofs.Writes.{judged-and-small}
-use Rattle.run.specs.declared.End.{End}
+use Rattle.model.specs.declared.End.{End}
 use Rattle.run.specs.Running.{Lent, run-rows, memory, holding, end-of, Ran, RunsAs, Runs}
 use Rattle.machine.specs.Choices.{choices-of}
 use Rattle.circle.specs.Closing.{moved-cells, Adds, Roomy, DoneOrSpent, Kept, ExpansionRun}

@@ -17,7 +17,7 @@ use Rattle.model.specs.Demand.{latest-write, Made, moves, Moves}
 use Rattle.reading.specs.Bytes.{arrays-of}
 use Rattle.format.specs.Plans.{declared-plan-of}
 use Rattle.files.specs.Expansions.{expansion-of}
-use Rattle.run.specs.declared.End.{End}
+use Rattle.model.specs.declared.End.{End}
 use Rattle.run.specs.Running.{Lent, holding}
 use Rattle.machine.specs.Choices.{choices-of}
 

@@ -9,7 +9,7 @@ use Rattle.model.specs.Blocks.{size}
 use Rattle.model.specs.Rows.{row, first}
 use Rattle.files.specs.Expansions.{expansion-of, expansion-file}
 use Rattle.judge.specs.Judged.{judge-rows}
-use Rattle.expand.specs.declared.Length.{Length}
+use Rattle.model.specs.declared.Length.{Length}
 
 -- the judge's numbers, then "16 expansion over 1,024 records; 17 output shorter than the expansion's file"
 unfoldable pub expand-answer : List ℕ → List ℕ → Verdict

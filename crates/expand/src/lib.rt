@@ -13,6 +13,7 @@ ghost use Rattle.expand.specs.Expanded.{expand-answer, expanded, length-
 use contents::Opened;
 use format::open;
 use judge::judge_opened;
+use model::Length;
 use model::Verdict;
 use reading::byte;
 use reading::kinds::MOST_EXPANDED;
@@ -67,12 +68,6 @@ pub fn expand(plan: &[u8], out: &mut [u8]) -> Verdict
     let o = open(plan);
     let answer = judge_opened(plan, o);
     expand_judged(plan, o, out, answer)
-}
-
-// An answer with the length of the expansion's file, where it is accepted.
-pub struct Length {
-    pub verdict: Verdict,
-    pub bytes: u32,
 }
 
 // A refused length.

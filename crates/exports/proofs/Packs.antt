@@ -4,13 +4,13 @@ use mathlib.Core.List.{List}
 use mathlib.Core.Path.{_≡_, _∙_, ap}
 use Rattle.model.specs.declared.Verdict.{Verdict}
 use Rattle.contents.specs.declared.Opened.{Opened}
-use Rattle.format.specs.declared.Part.{Part}
+use Rattle.model.specs.declared.Part.{Part}
 use Rattle.format.specs.Opening.{opened}
 use Rattle.format.specs.Views.{body-part}
 use Rattle.judge.specs.Judged.{judged}
-use Rattle.expand.specs.declared.Length.{Length}
+use Rattle.model.specs.declared.Length.{Length}
 use Rattle.expand.specs.Expanded.{expand-answer, length-of-expansion}
-use Rattle.view.specs.declared.View.{View}
+use Rattle.model.specs.declared.View.{View}
 use Rattle.view.specs.Viewing.{memory-side}
 use Rattle.packing.specs.Packed.{packed-answer, packed-part, packed-length, packed-view}
 use Rattle.exports.specs.Exported.{packed-opening, packed-body-view, packed-judge, packed-expand, packed-expansion-length, packed-memory-view}

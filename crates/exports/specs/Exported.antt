@@ -8,7 +8,7 @@ use Rattle.format.specs.Views.{body-part}
 use Rattle.checker.specs.Checking.{Checks}
 use Rattle.judge.specs.Judged.{judged}
 use Rattle.expand.specs.Expanded.{expand-answer, length-of-expansion}
-use Rattle.run.specs.declared.End.{End}
+use Rattle.model.specs.declared.End.{End}
 use Rattle.run.specs.Running.{Lent, Runs}
 use Rattle.view.specs.Viewing.{memory-side}
 use Rattle.packing.specs.Packed.{packed-answer, packed-part, packed-length, packed-view, figures-of}

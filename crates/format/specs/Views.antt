@@ -5,7 +5,7 @@ use lib.ListN.{take, drop}
 use lib.Dec.{leb}
 use Rattle.model.specs.declared.Verdict.{Verdict}
 use Rattle.model.specs.declared.Verdict.the-variants.{Accepted, Stopped, Refused}
-use Rattle.format.specs.declared.Part.{Part}
+use Rattle.model.specs.declared.Part.{Part}
 use Rattle.model.specs.Rows.{row, first}
 use Rattle.reading.specs.Bytes.{body-count, records-in, first-record, bodies-at}
 use Rattle.format.specs.Opening.{open-rows}

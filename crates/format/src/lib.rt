@@ -7,6 +7,7 @@ ghost use Rattle.model.specs.Lists.{further};
 use contents::Opened;
 use contents::nothing_found;
 use contents::outline;
+use model::Part;
 use model::Verdict;
 use records::all_records;
 
@@ -24,13 +25,6 @@ pub fn open(plan: &[u8]) -> Opened
         return nothing_found(tested);
     };
     o
-}
-
-// An answer with a part of the caller's bytes, where it is accepted: where it begins and its length.
-pub struct Part {
-    pub verdict: Verdict,
-    pub from: u16,
-    pub size: u16,
 }
 
 // A refused part.

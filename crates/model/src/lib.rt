@@ -32,6 +32,35 @@ pub struct Tally {
     pub moved: u64,
 }
 
+// An answer with a part of the caller's bytes, where it is accepted: where it begins and its length.
+pub struct Part {
+    pub verdict: Verdict,
+    pub from: u16,
+    pub size: u16,
+}
+
+// An answer with the length of an expansion's file, where it is accepted.
+pub struct Length {
+    pub verdict: Verdict,
+    pub bytes: u32,
+}
+
+// An answer with the side that a part of a memory is of, where it is accepted.
+pub struct View {
+    pub verdict: Verdict,
+    pub side: u8,
+}
+
+// A run's answer; the figures are those of a run that is done, 0 otherwise.
+pub struct End {
+    pub verdict: Verdict,
+    pub used: u32,
+    pub host_flags: u32,
+    pub card_flags: u32,
+    pub on_host: u32,
+    pub on_card: u32,
+}
+
 // The values of an answer, where a stop has the number `stop`: 18 of the check, 21 of the run.
 pub fn values_of(v: Verdict, stop: u8) -> Values
     ensures { λ r. ⌜ r ≡ values-of stop v ⌝ }

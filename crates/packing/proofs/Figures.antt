@@ -4,7 +4,7 @@ use mathlib.Core.List.{List, [], _∷_}
 use Prim.Native.Nat.{ℕ}
 use Rattle.model.specs.declared.Verdict.{Verdict}
 use Rattle.model.specs.declared.Verdict.the-variants.{Accepted, Stopped, Refused}
-use Rattle.run.specs.declared.End.{End}
+use Rattle.model.specs.declared.End.{End}
 use Rattle.packing.specs.Packed.{figures-by, figures-of}
 
 module _ (l : List ℕ) (e : End) where

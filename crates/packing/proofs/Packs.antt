@@ -3,9 +3,9 @@ use Prim.Native.Nat.{ℕ, _+_, _*_, _^_}
 use mathlib.Core.Path.{_≡_, ap}
 use Rattle.model.specs.declared.Values.{Values}
 use Rattle.model.specs.Verdicts.{values-of}
-use Rattle.format.specs.declared.Part.{Part}
-use Rattle.expand.specs.declared.Length.{Length}
-use Rattle.view.specs.declared.View.{View}
+use Rattle.model.specs.declared.Part.{Part}
+use Rattle.model.specs.declared.Length.{Length}
+use Rattle.model.specs.declared.View.{View}
 use Rattle.packing.specs.Packed.{packed, packed-part, packed-length, packed-view}
 
 -- of a part: its number, where it begins, its length

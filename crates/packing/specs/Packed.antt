@@ -7,10 +7,10 @@ use Rattle.model.specs.declared.Tally.{Tally}
 use Rattle.model.specs.declared.Verdict.{Verdict}
 use Rattle.model.specs.declared.Verdict.the-variants.{Accepted, Stopped, Refused}
 use Rattle.model.specs.Verdicts.{values-of}
-use Rattle.format.specs.declared.Part.{Part}
-use Rattle.expand.specs.declared.Length.{Length}
-use Rattle.run.specs.declared.End.{End}
-use Rattle.view.specs.declared.View.{View}
+use Rattle.model.specs.declared.Part.{Part}
+use Rattle.model.specs.declared.Length.{Length}
+use Rattle.model.specs.declared.End.{End}
+use Rattle.model.specs.declared.View.{View}
 
 -- number in bits 0 to 15, place or record in 16 to 31, cell in 32 to 47, the file's kind (0 if it does not open) in 48 to 55
 abbrev pub packed : ℕ → Values → ℕ

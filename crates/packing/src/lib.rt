@@ -1,12 +1,12 @@
 // Answers packed into 64 bits, for callers in C and Rust.
 ghost use mathlib.Core.Path.{_≡_};
 ghost use Rattle.packing.specs.Packed.{packed, packed-answer, packed-part, packed-length, packed-view, figures-of};
-use expand::Length;
-use format::Part;
+use model::End;
+use model::Length;
+use model::Part;
 use model::Values;
 use model::Verdict;
-use run::End;
-use view::View;
+use model::View;
 
 // Number, place or record, cell, kind.
 fn pack(kind: u8, v: Values) -> u64

@@ -2,11 +2,11 @@
 use console::answers::refusal;
 use console::page::Page;
 use console::page::filled;
+use model::End;
 use model::Tally;
 use model::Values;
 use report::Ending;
 use report::Report;
-use run::End;
 
 // How the run ended, the answer's number, and the values that make sense for that.
 fn ending_lines(page: &mut Page, s: &[u8], v: Values) -> usize {

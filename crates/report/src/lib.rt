@@ -2,11 +2,11 @@
 ghost use mathlib.Core.Path.{_≡_};
 ghost use Rattle.report.specs.Reports.{ending-of, nothing, ReportOf};
 ghost use Rattle.run.specs.Running.{lent};
+use model::End;
 use model::Tally;
 use model::Values;
 use model::Verdict;
 use reading::kinds::CELLS;
-use run::End;
 
 // No plan has more cells.
 pub type Memory = [u64; CELLS];

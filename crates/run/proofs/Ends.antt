@@ -17,7 +17,7 @@ use Rattle.reading.specs.Bytes.{table, arrays-of}
 use Rattle.format.specs.Plans.{plan-of}
 use Rattle.model.proofs.Rows.{never-stops}
 use Rattle.reading.proofs.Tables.{length-table, getD-table}
-use Rattle.run.specs.declared.End.{End}
+use Rattle.model.specs.declared.End.{End}
 use Rattle.run.specs.Running.{Lent, lent, run-rows, memory, holding, no-end, end-of, Ran, RunsAs, Runs}
 use Rattle.machine.specs.Choices.{choices-of}
 use Rattle.memories.specs.Memories.{number-of}

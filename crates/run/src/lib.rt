@@ -6,21 +6,12 @@ use answers::end_of;
 use answers::no_end;
 use answers::ready;
 use contents::Opened;
+use model::End;
 use model::Tally;
 use model::Verdict;
 use steps::run_to_end;
 
 mod answers;
-
-// A run's answer; the figures are those of a run that is done, 0 otherwise.
-pub struct End {
-    pub verdict: Verdict,
-    pub used: u32,
-    pub host_flags: u32,
-    pub card_flags: u32,
-    pub on_host: u32,
-    pub on_card: u32,
-}
 
 // A run's answer, and what its tally has become.
 pub struct Counted {

@@ -12,7 +12,7 @@ use Rattle.model.specs.declared.Verdict.{Verdict}
 use Rattle.model.specs.declared.Verdict.the-variants.{Accepted, Stopped, Refused}
 use Rattle.model.proofs.Booleans.{or-none, and-out}
 use Rattle.model.proofs.Rows.{holds, skips, skipped, empty}
-use Rattle.view.specs.declared.View.{View}
+use Rattle.model.specs.declared.View.{View}
 use Rattle.view.specs.Viewing.{all-current, memory-view-answer, viewed-side, viewed-place, viewed, memory-view, view-by, memory-side}
 use Rattle.memories.specs.Inner.Ranges.{FirstStale}
 

@@ -8,7 +8,7 @@ use Rattle.model.specs.declared.Verdict.{Verdict}
 use Rattle.model.specs.declared.Verdict.the-variants.{Accepted, Stopped, Refused}
 use Rattle.model.specs.Lists.{further}
 use Rattle.model.specs.Rows.{row, first}
-use Rattle.view.specs.declared.View.{View}
+use Rattle.model.specs.declared.View.{View}
 
 -- "A copy is current if it equals the latest stamp": n cells from cell c on are all current in a memory
 unfoldable pub all-current : List ℕ → List ℕ → ℕ → ℕ → Bool

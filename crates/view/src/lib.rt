@@ -5,12 +5,7 @@ ghost use lib.ListN.{length};
 ghost use Rattle.view.specs.Viewing.{all-current, memory-view-answer, viewed-side, viewed-place, memory-view, memory-side};
 use memories::first_stale;
 use model::Verdict;
-
-// An answer with the side of the part, where it is accepted.
-pub struct View {
-    pub verdict: Verdict,
-    pub side: u8,
-}
+use model::View;
 
 // The length of the shorter of two memories.
 fn shorter(a: usize, b: usize) -> usize

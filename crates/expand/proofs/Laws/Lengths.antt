@@ -10,7 +10,7 @@ use Rattle.model.specs.declared.Verdict.the-variants.{Accepted, Stopped, Refuse
 use Rattle.model.specs.Blocks.{size}
 use Rattle.model.proofs.Rows.{refused, holds, skips, empty, stop, pass}
 use Rattle.judge.specs.Judged.{judge-rows, judged}
-use Rattle.expand.specs.declared.Length.{Length}
+use Rattle.model.specs.declared.Length.{Length}
 use Rattle.files.specs.Expansions.{expansion-of, expansion-file}
 use Rattle.expand.specs.Expanded.{length-answer, length-by, length-of-expansion}
 

@@ -4,7 +4,7 @@ use mathlib.Core.Bool.{Bool}
 use Rattle.model.specs.declared.Verdict.{Verdict}
 use Rattle.model.specs.declared.Verdict.the-variants.{Accepted, Stopped, Refused}
 use Rattle.memories.specs.Flags.{mask, set-flags}
-use Rattle.run.specs.declared.End.{End}
+use Rattle.model.specs.declared.End.{End}
 use Rattle.run.specs.Running.{no-end}
 
 -- what a run answers that has ended with a verdict, where the flags of n arrays are those
