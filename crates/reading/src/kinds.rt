@@ -48,8 +48,6 @@ pub const MOST_RECORDS: u16 = 1024;
 
 pub const MOST_EXPANDED: u32 = 1024;
 
-pub const LARGEST: usize = 1024;
-
 pub const PLACES: usize = 1025;
 
 // "over 65,536 choices".
