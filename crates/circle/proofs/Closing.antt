@@ -36,7 +36,7 @@ use Rattle.circle.proofs.Runs.{file-demand3}
 use Rattle.circle.proofs.Writes.{judged-and-small}
 use Rattle.model.specs.declared.End.{End}
 use Rattle.run.specs.Running.{Lent, run-rows, memory, holding, end-of, Ran, RunsAs, Runs}
-use Rattle.machine.specs.Choices.{choices-of}
+use Rattle.standing.specs.Choices.{choices-of}
 use Rattle.circle.specs.Closing.{moved-cells, Adds, Roomy, DoneOrSpent, Kept, ExpansionRun}
 
 -- one more declaration adds the cells of its array, if its need copied

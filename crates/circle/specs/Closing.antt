@@ -19,7 +19,7 @@ use Rattle.format.specs.Plans.{declared-plan-of}
 use Rattle.files.specs.Expansions.{expansion-of}
 use Rattle.model.specs.declared.End.{End}
 use Rattle.run.specs.Running.{Lent, holding}
-use Rattle.machine.specs.Choices.{choices-of}
+use Rattle.standing.specs.Choices.{choices-of}
 
 -- "An array moves at each need of it that copies": the cells that the moves of the arrays below n come to
 unfoldable pub moved-cells : Arrays → List Made → ℕ → ℕ

@@ -32,11 +32,11 @@ use Rattle.format.proofs.Acts.{plain-kind}
 use Rattle.acts.specs.declared.Stored.{Stored}
 use Rattle.acts.specs.declared.Acted.{Acted}
 use Rattle.acts.specs.declared.Acted.the-variants.{Done, Unmet}
-use Rattle.machine.specs.Choices.{choices-of}
+use Rattle.standing.specs.Choices.{choices-of}
 use Rattle.memories.specs.Inner.Ranges.{Room, Same}
 use Rattle.acts.specs.Inner.Acting.{Rooms, Low, Spans, Holds, Acts}
 use Rattle.places.specs.Inner.Places.{Spot, skipped, into, settled, chosen, rest-of, left-of, weight, Part, Placed}
-use Rattle.machine.specs.Inner.Standing.{Runner, stored-with, tally-with, past-record, ended-with, moved-to, after-act, tally-after, tested, measure, next-record, said-of, Stands, StepsAs, Steps, Stood, Reaches}
+use Rattle.standing.specs.Inner.Standing.{Runner, stored-with, tally-with, past-record, ended-with, moved-to, after-act, tally-after, tested, measure, next-record, said-of, Stands, StepsAs, Steps, Stood, Reaches}
 use Rattle.reading.specs.Inner.Cells.{from-of, to-of}
 use Rattle.machine.proofs.Records.{few-arrays, spans, inside, few-counted, few-moved}
 use Rattle.places.proofs.Places.{left-into, starts-into, placed-into, into-used, settling, light}

@@ -1,154 +1,26 @@
-// Where a run stands in a plan, and one step of it.
+// One step of a run.
 ghost use mathlib.Core.Path.{_≡_};
 ghost use mathlib.Core.Bool.{true};
-ghost use mathlib.Core.List.{List};
-ghost use Prim.Native.Nat.{ℕ, _+_, _≤_, _<_};
+ghost use Prim.Native.Nat.{_<_};
 ghost use lib.ListN.{length};
 ghost use Rattle.model.specs.Sides.{cells};
-ghost use Rattle.reading.specs.Bytes.{arrays-of, first-arm, second-arm};
+ghost use Rattle.reading.specs.Bytes.{arrays-of};
 ghost use Rattle.memories.specs.Inner.Ranges.{Same};
-ghost use Rattle.places.specs.Inner.Places.{spot};
-ghost use Rattle.machine.specs.Inner.Standing.{runner, stored-with, past-record, after-act, tally-after, ended-with, moved-to, tested, measure, Stood, Steps};
-use acts::Acted;
-use acts::Stored;
+ghost use Rattle.standing.specs.Inner.Standing.{runner, measure, Stood, Steps};
 use acts::act;
-use model::Record;
 use model::Tally;
 use model::Verdict;
-use places::Place;
-use places::choose;
-use places::settle;
-use reading::Fields;
 use reading::first_cell;
 use reading::kinds::BRANCH;
 use reading::next_cell;
 use reading::record_at;
-
-// Where a run stands, its flags, and where the plan's bodies begin; the record that the last step executed. The verdict is that of a run that has ended, accepted while it runs.
-// The counters stand in the tally alone.
-pub struct Machine {
-    pub place: Place,
-    pub flags: u32,
-    pub other_flags: u32,
-    pub bodies: usize,
-    pub last: Record,
-    pub verdict: Verdict,
-    pub running: bool,
-}
-
-// A machine, and the tally that stands beside it.
-pub struct Stepped {
-    pub machine: Machine,
-    pub tally: Tally,
-}
-
-// The run has ended.
-fn ended(m: Machine, v: Verdict) -> Machine
-    ensures { λ r. ⌜ ((room : List ℕ) → runner r room ≡ ended-with (runner m room) v) ⌝ }
-{
-    let p = m.place;
-    let last = m.last;
-    Machine {
-        place: p,
-        flags: m.flags,
-        other_flags: m.other_flags,
-        bodies: m.bodies,
-        last: last,
-        verdict: v,
-        running: false,
-    }
-}
-
-// The same, and the tally is as it was.
-fn over(m: Machine, v: Verdict, kept: Tally) -> Stepped
-    ensures { λ r. ⌜ ((room : List ℕ) → runner (r .machine) room ≡ ended-with (runner m room) v) × (r .tally ≡ kept) ⌝ }
-{
-    Stepped {
-        machine: ended(m, v),
-        tally: kept,
-    }
-}
-
-// The run has moved on from a record.
-fn moved(m: Machine, p: Place, flags: u32, other_flags: u32) -> Machine
-    requires { ⌜ m .place .at < 65536 ⌝ }
-    ensures { λ r. ⌜ ((room : List ℕ) → runner r room ≡ moved-to (runner m room) (spot p room) flags «other_flags») ⌝ }
-{
-    let q = m.place;
-    let v = m.verdict;
-    Machine {
-        place: p,
-        flags: flags,
-        other_flags: other_flags,
-        bodies: m.bodies,
-        last: Record(q.at as u16),
-        verdict: v,
-        running: m.running,
-    }
-}
-
-// A branch, or a test of a loop, with the fields x.
-fn test(m: Machine, x: Fields, choices: &[u8], room: &mut [u16]) -> Machine
-    requires { ⌜ (m .place .depth < 16) × (m .place .used ≤ length (now choices)) × (length (now choices) ≤ 65536) × (length (now room) ≡ 65) × (m .place .end < 65536) × (m .place .at + 1 + first-arm x + second-arm x < 65536) ⌝ }
-    ensures { λ r. ⌜ runner r (now (room .exit)) ≡ tested (runner m (now (room .entry))) x (now (choices .entry)) ⌝ }
-{
-    let p = m.place;
-    let used = p.used;
-    if used == choices.len() {
-        return ended(m, Verdict::Refused(22, p.at as u16));
-    }
-    let q = choose(p, x, choices[used], room);
-    moved(m, settle(q, room), m.flags, m.other_flags)
-}
-
-// The place past a record without arms.
-fn past(p: Place) -> Place
-    requires { ⌜ p .at < 1024 ⌝ }
-    ensures { λ r. ⌜ ((room : List ℕ) → spot r room ≡ past-record (spot p room)) ⌝ }
-{
-    let mut q = p;
-    q.at = p.at + 1;
-    q
-}
-
-// What a record acts on besides the memories.
-fn acted_on(m: Machine, t: Tally) -> Stored
-    ensures { λ r. ⌜ ((room : List ℕ) → r ≡ stored-with (runner m room) t) ⌝ }
-{
-    Stored {
-        flags: m.flags,
-        other_flags: m.other_flags,
-        reads: t.reads,
-        writes: t.writes,
-        moved: t.moved,
-    }
-}
-
-// Where the run stands after a record without arms: past it, or at its end where its need is unmet.
-fn after(m: Machine, r: Acted, room: &[u16]) -> Machine
-    requires { ⌜ (m .place .at < 1024) × (m .place .depth ≤ 16) × (length (now room) ≡ 65) ⌝ }
-    ensures { λ q. ⌜ runner q (now (room .entry)) ≡ after-act (runner m (now (room .entry))) r ⌝ }
-{
-    let p = m.place;
-    match r {
-        Acted::Done(s) => moved(m, settle(past(p), room), s.flags, s.other_flags),
-        Acted::Unmet(c) => ended(m, Verdict::Stopped(Record(p.at as u16), c)),
-    }
-}
-
-// The tally after it: where its need is unmet, as it was.
-fn tally_after(t: Tally, r: Acted) -> Tally
-    ensures { λ q. ⌜ q ≡ tally-after t r ⌝ }
-{
-    match r {
-        Acted::Done(s) => Tally {
-            reads: s.reads,
-            writes: s.writes,
-            moved: s.moved,
-        },
-        Acted::Unmet(_) => t,
-    }
-}
+use standing::Machine;
+use standing::Stepped;
+use standing::acted_on;
+use standing::after;
+use standing::over;
+use standing::tally_after;
+use standing::test;
 
 // One step of the definition of a run: a record, a branch, a test of a loop, or the end. The tally goes through it by value.
 pub fn step(

@@ -19,10 +19,10 @@ use Rattle.model.proofs.Rows.{never-stops}
 use Rattle.reading.proofs.Tables.{length-table, getD-table}
 use Rattle.model.specs.declared.End.{End}
 use Rattle.run.specs.Running.{Lent, lent, run-rows, memory, holding, no-end, end-of, Ran, RunsAs, Runs}
-use Rattle.machine.specs.Choices.{choices-of}
+use Rattle.standing.specs.Choices.{choices-of}
 use Rattle.memories.specs.Memories.{number-of}
 use Rattle.memories.specs.Inner.Ranges.{Same}
-use Rattle.machine.specs.Inner.Standing.{Runner, said-of, Over, Reaches}
+use Rattle.standing.specs.Inner.Standing.{Runner, said-of, Over, Reaches}
 use Rattle.run.specs.Inner.Ending.{end-with}
 
 -- a memory whose first n cells are as `held` says and whose others are as they were

@@ -17,7 +17,7 @@ use Rattle.format.specs.Opening.{open-rows}
 use Rattle.format.specs.Plans.{plan-of}
 use Rattle.memories.specs.Memories.{number-of}
 use Rattle.memories.specs.Flags.{mask, set-flags}
-use Rattle.machine.specs.Choices.{choices-of}
+use Rattle.standing.specs.Choices.{choices-of}
 use Rattle.model.specs.declared.End.{End}
 
 -- "The run is lent host, card and latest memories, a tally": what they hold before it or after it

@@ -9,12 +9,12 @@ ghost use Rattle.memories.specs.Flags.{mask};
 ghost use Rattle.run.specs.Running.{lent, run-rows, no-end};
 ghost use Rattle.run.specs.Inner.Ending.{end-with};
 use contents::Opened;
-use machine::Machine;
 use memories::flags::flags_set;
 use model::End;
 use model::Verdict;
 use reading::kinds::CHOICES;
 use reading::kinds::PLAIN;
+use standing::Machine;
 
 // Numbers 1 to 11, 19 and 20, of a plan file that opening has found to be o.
 pub fn ready(

@@ -19,10 +19,10 @@ use Rattle.format.specs.Inner.Walks.{Plain, Starts, block-between}
 use Rattle.reading.proofs.Tables.{arrays-counted}
 use Rattle.format.proofs.Walking.{verdict-is, found-is, array-start, Facts, opened-facts}
 use Rattle.format.proofs.Trees.{plain-good, plain-body}
-use Rattle.machine.specs.Choices.{choices-of}
+use Rattle.standing.specs.Choices.{choices-of}
 use Rattle.memories.specs.Inner.Ranges.{Changed}
 use Rattle.places.specs.Inner.Places.{spot, started, rest-of, left-of, weight-of, weight, Parts}
-use Rattle.machine.specs.Inner.Standing.{runner, Reaches}
+use Rattle.standing.specs.Inner.Standing.{runner, Reaches}
 use Rattle.steps.specs.Inner.Beginning.{Fronted, first-machine, Ready}
 use Rattle.memories.proofs.Masks.{none}
 

@@ -6,11 +6,9 @@ ghost use lib.ListN.{length};
 ghost use Rattle.model.specs.Sides.{cells};
 ghost use Rattle.reading.specs.Bytes.{arrays-of};
 ghost use Rattle.memories.specs.Inner.Ranges.{Room, Changed, Same};
-ghost use Rattle.machine.specs.Inner.Standing.{runner, Reaches};
+ghost use Rattle.standing.specs.Inner.Standing.{runner, Reaches};
 ghost use Rattle.steps.specs.Inner.Beginning.{Fronted, first-machine, ReachesEnd, Ready};
 use contents::Opened;
-use machine::Machine;
-use machine::Stepped;
 use machine::step_lent;
 use memories::fill;
 use memories::flags::all_flags;
@@ -20,6 +18,8 @@ use model::Verdict;
 use places::ROOM;
 use places::first_place;
 use reading::kinds::STARTS;
+use standing::Machine;
+use standing::Stepped;
 
 // Stands for "never".
 const NEVER: u64 = 18446744073709551615;

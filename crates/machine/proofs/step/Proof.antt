@@ -7,7 +7,7 @@ use Rattle.reading.specs.Bytes.{array-count, arrays-of}
 use Rattle.format.proofs.Walking.{opened-facts}
 use Rattle.format.proofs.Acts.{record-inside}
 use Rattle.memories.proofs.Cells.{same-all, same-more}
-use Rattle.machine.specs.Inner.Standing.{runner, stored-with}
+use Rattle.standing.specs.Inner.Standing.{runner, stored-with}
 use Rattle.reading.specs.Inner.Cells.{from-of, to-of}
 use Rattle.machine.proofs.Records.{on-array}
 use Rattle.machine.proofs.Steps.{fits-inside, record-fits, kind-is, not-deep, Able, at-end, at-test, able, at-record, ensured}
@@ -18,11 +18,11 @@ use Rattle.machine.proofs.step.Reads as reads
 use Rattle.machine.proofs.step.Lts as lts
 use Rattle.acts.proofs.act.Reads as act-reads
 use Rattle.reading.proofs.record_at.Reads as record-at-reads
-use Rattle.machine.proofs.acted_on.Reads as acted-on-reads
+use Rattle.standing.proofs.acted_on.Reads as acted-on-reads
 use Rattle.reading.proofs.first_cell.Reads as first-cell-reads
 use Rattle.reading.proofs.next_cell.Reads as next-cell-reads
-use Rattle.machine.proofs.over.Reads as over-reads
-use Rattle.machine.proofs.test.Reads as test-reads
+use Rattle.standing.proofs.over.Reads as over-reads
+use Rattle.standing.proofs.test.Reads as test-reads
 
 -- the place is before the end of its arm
 before-end : (c : tie.Else1) → c .before .before .before .before .before .before .before .before .before .args .m .place .at < c .before .before .before .before .before .before .before .before .before .args .m .place .end

@@ -43,16 +43,16 @@ use denote.Exit.{yes}
 use Rattle.model.specs.Sides.{cells}
 use Rattle.reading.specs.Bytes.{arrays-of}
 use Rattle.memories.specs.Inner.Ranges.{Same}
-use Rattle.machine.specs.Inner.Standing.{runner, measure as left, Stood, Steps}
+use Rattle.standing.specs.Inner.Standing.{runner, measure as left, Stood, Steps}
 use Rattle.model.specs.declared.Tally.{Tally}
-use Rattle.machine.specs.declared.Machine.{Machine}
-use Rattle.machine.specs.declared.Stepped.{Stepped}
+use Rattle.standing.specs.declared.Machine.{Machine}
+use Rattle.standing.specs.declared.Stepped.{Stepped}
 use Rattle.model.proofs.Tally as T
 use Rattle.model.proofs.Tally.Laws as T′
-use Rattle.machine.proofs.Machine as N
-use Rattle.machine.proofs.Machine.Laws as N′
-use Rattle.machine.proofs.Stepped as S
-use Rattle.machine.proofs.Stepped.Laws as S′
+use Rattle.standing.proofs.Machine as N
+use Rattle.standing.proofs.Machine.Laws as N′
+use Rattle.standing.proofs.Stepped as S
+use Rattle.standing.proofs.Stepped.Laws as S′
 use Rattle.machine.proofs.step as step
 use Rattle.machine.proofs.step.Symbol as step-def
 use Rattle.machine.proofs.step.Symbol.{name as #machine·step}

@@ -46,14 +46,14 @@ use Rattle.model.specs.Sides.{cells}
 use Rattle.reading.specs.Bytes.{arrays-of}
 use Rattle.memories.specs.Inner.Ranges.{Same}
 use Rattle.memories.proofs.Cells.{same-all, same-twice}
-use Rattle.machine.specs.Inner.Standing.{runner, measure as left, Stood, Steps, Reaches}
+use Rattle.standing.specs.Inner.Standing.{runner, measure as left, Stood, Steps, Reaches}
 use Rattle.machine.proofs.Steps.{stood, goes-on}
 use Rattle.model.specs.declared.Tally.{Tally}
-use Rattle.machine.specs.declared.Machine.{Machine}
+use Rattle.standing.specs.declared.Machine.{Machine}
 use Rattle.steps.proofs.Again as Again
 use Rattle.model.proofs.Tally as T
-use Rattle.machine.proofs.Machine as N
-use Rattle.machine.proofs.Machine.Laws as N′
+use Rattle.standing.proofs.Machine as N
+use Rattle.standing.proofs.Machine.Laws as N′
 use Rattle.machine.proofs.step_lent as step
 use Rattle.machine.proofs.step_lent.Symbol as step-def
 use Rattle.machine.proofs.step_lent.Symbol.{name as #machine·step-lent}

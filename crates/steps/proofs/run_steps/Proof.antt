@@ -28,12 +28,12 @@ use denote.Exit.{yes}
 use Rattle.model.specs.Sides.{cells}
 use Rattle.reading.specs.Bytes.{arrays-of}
 use Rattle.memories.specs.Inner.Ranges.{Same}
-use Rattle.machine.specs.Inner.Standing.{runner, Reaches}
+use Rattle.standing.specs.Inner.Standing.{runner, Reaches}
 use Rattle.model.specs.declared.Tally.{Tally}
-use Rattle.machine.specs.declared.Machine.{Machine}
+use Rattle.standing.specs.declared.Machine.{Machine}
 use Rattle.model.proofs.Tally as T
-use Rattle.machine.proofs.Machine as N
-use Rattle.machine.proofs.Machine.Laws as N′
+use Rattle.standing.proofs.Machine as N
+use Rattle.standing.proofs.Machine.Laws as N′
 use mathlib.Core.Path.{_≡_, refl, ap}
 use mathlib.Core.Bool.{false}
 use mir.Syntax.{named}
@@ -51,9 +51,9 @@ use denote.Triple.Call.{calls-at}
 use denote.Triple.Walked.{says, Stays, stay-dropped, gave-slice, walkOf, AllGo, goes-dropped, goes-gave-slice, Walks, ends-at, walked, walk-meets, needs}
 use Rattle.steps.proofs.Local.{lends-local, local-back}
 use Rattle.model.proofs.Tally.Laws as T′
-use Rattle.machine.specs.declared.Stepped.{Stepped}
-use Rattle.machine.proofs.Stepped as K
-use Rattle.machine.proofs.Stepped.Laws as K′
+use Rattle.standing.specs.declared.Stepped.{Stepped}
+use Rattle.standing.proofs.Stepped as K
+use Rattle.standing.proofs.Stepped.Laws as K′
 use Rattle.steps.proofs.run_lent as whole-run
 use Rattle.steps.proofs.run_lent.Symbol as whole-run-def
 use Rattle.steps.proofs.run_lent.Symbol.{name as #steps·run-lent}

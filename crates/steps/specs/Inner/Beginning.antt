@@ -11,9 +11,9 @@ use Rattle.contents.specs.declared.Opened.{Opened}
 use Rattle.reading.specs.Bytes.{kind-of, arrays-of}
 use Rattle.format.specs.Opening.{opening, opened}
 use Rattle.memories.specs.Flags.{mask}
-use Rattle.machine.specs.declared.Machine.{Machine}
+use Rattle.standing.specs.declared.Machine.{Machine}
 use Rattle.places.specs.Inner.Places.{started}
-use Rattle.machine.specs.Inner.Standing.{runner, Reaches}
+use Rattle.standing.specs.Inner.Standing.{runner, Reaches}
 
 -- the first cells of the arrays stand at the front of the room
 pub record Fronted (starts room : List ℕ) : Type 0 where

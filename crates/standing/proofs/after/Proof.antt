@@ -3,8 +3,8 @@ use mathlib.Core.Path.{refl, ap, _∙_}
 use mathlib.Core.List.{[]}
 use Rattle.places.specs.Inner.Places.{Spot, settled}
 use borrow.Author.Needs.{needs}
-use Rattle.machine.proofs.after.Statement.{statement}
-use Rattle.machine.proofs.after.Tie as tie
+use Rattle.standing.proofs.after.Statement.{statement}
+use Rattle.standing.proofs.after.Tie as tie
 
 enum-known-r : tie.Need-enum-known-r
 enum-known-r c = search needs

@@ -21,8 +21,8 @@ use Rattle.acts.specs.declared.Stored.{Stored}
 use Rattle.acts.specs.declared.Acted.{Acted}
 use Rattle.acts.specs.declared.Acted.the-variants.{Done, Unmet}
 use Rattle.places.specs.Inner.Places.{Spot, spot, settled, chosen, left-of, weight, Placed}
-use Rattle.machine.specs.declared.Machine.{Machine}
-use Rattle.machine.specs.Choices.{choices-of}
+use Rattle.standing.specs.declared.Machine.{Machine}
+use Rattle.standing.specs.Choices.{choices-of}
 use Rattle.acts.specs.Inner.Acting.{Holds}
 
 -- a machine with its room

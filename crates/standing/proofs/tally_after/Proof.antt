@@ -1,9 +1,9 @@
 -- `tally_after` is the tally of the record that acted, or as it was.
 use mathlib.Core.Path.{ap, sym}
-use Rattle.machine.specs.Inner.Standing.{tally-after}
+use Rattle.standing.specs.Inner.Standing.{tally-after}
 use borrow.Author.Needs.{needs}
-use Rattle.machine.proofs.tally_after.Statement.{statement}
-use Rattle.machine.proofs.tally_after.Tie as tie
+use Rattle.standing.proofs.tally_after.Statement.{statement}
+use Rattle.standing.proofs.tally_after.Tie as tie
 
 enum-known-r : tie.Need-enum-known-r
 enum-known-r c = search needs

@@ -1,14 +1,14 @@
 -- `test` takes a choice, or ends the run where there is none.
 use borrow.Author.Tests.{eq-eqb, ne-eqb}
-use Rattle.machine.specs.Inner.Standing.{tested}
+use Rattle.standing.specs.Inner.Standing.{tested}
 use Rattle.places.proofs.Places.{chosen-depth}
 use borrow.Author.Needs.{needs}
-use Rattle.machine.proofs.test.Statement.{statement}
-use Rattle.machine.proofs.test.Tie as tie
-use Rattle.machine.proofs.test.Reads as reads
-use Rattle.machine.proofs.test.Lts as lts
-use Rattle.machine.proofs.ended.Reads as ended-reads
-use Rattle.machine.proofs.moved.Reads as moved-reads
+use Rattle.standing.proofs.test.Statement.{statement}
+use Rattle.standing.proofs.test.Tie as tie
+use Rattle.standing.proofs.test.Reads as reads
+use Rattle.standing.proofs.test.Lts as lts
+use Rattle.standing.proofs.ended.Reads as ended-reads
+use Rattle.standing.proofs.moved.Reads as moved-reads
 use Rattle.places.proofs.choose.Reads as choose-reads
 use Rattle.places.proofs.settle.Reads as settle-reads
 
