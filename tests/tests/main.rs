@@ -1,0 +1,14 @@
+//! All tests, in one program.
+
+mod c;
+mod check;
+mod examples;
+mod expand;
+mod loopturns;
+mod open;
+mod plancheck;
+mod planlist;
+mod programs;
+mod run;
+mod streams;
+mod walker;
