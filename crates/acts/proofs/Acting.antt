@@ -19,9 +19,11 @@ use Rattle.acts.specs.declared.Acted.the-variants.{Done, Unmet}
 use Rattle.memories.specs.Memories.{number-of}
 use Rattle.memories.specs.Flags.{mask}
 use Rattle.memories.specs.Inner.Ranges.{among, FirstStale, Changed}
+use Rattle.known.specs.Inner.Knowing.{Knows, known-on, known-both}
+use Rattle.known.proofs.Ranges.{current-in, none-in}
 use Rattle.memories.proofs.Masks.{mask-same}
 use Rattle.acts.specs.Inner.Acting.{Low, CellsAt, ArrayAt, Holds, BothSet, BothSetAs, FollowsAs, MovesCells}
-use Rattle.acts.proofs.Stale.{range-ends, range-cells, array-cells-end, array-cells, Sees, all-fine, stale-at}
+use Rattle.acts.proofs.Stale.{among-true, range-ends, range-cells, array-cells-end, array-cells, Sees, all-fine, stale-at}
 
 set-or : (b f : Bool) → cond b true f ≡ (b || f)
 set-or true f = refl
@@ -33,6 +35,20 @@ chosen-number false i j x y p q = q
 
 chosen-stamp : (b : Bool) (i j k m : ℕ) → i ≡ k → j ≡ m → cond b i j ≡ cond b k m
 chosen-stamp b i j k m p q = rw (p, q)
+
+-- a cell of the range is as `new` says
+new-here : {from to : ℕ} {new : ℕ → ℕ} {before after : List ℕ} → Changed from to new before after → (c : ℕ) → from ≤ c → c < to → getD after c 0 ≡ new c
+new-here {from} {to} a c i j = rw (among-true from to c i j) at (a .cell c)
+
+-- what is known after a write, seen from its side
+written-known : {from to k : ℕ} {own own′ others latest latest′ : List ℕ} → from < 65536 → Changed from to (λ c. k) own own′ → Changed from to (λ c. k) latest latest′ → Knows (known-on false from to) own′ others latest′
+written-known {from} {to} {own′ = own′} {others = others} {latest′ = latest′} small a b =
+    record { on-host = current-in own′ latest′ from to small (λ c i j. new-here a c i j ∙ sym (new-here b c i j)); on-card = none-in others latest′ }
+
+-- and after a copy
+copied-known : {from to : ℕ} {own own′ others latest : List ℕ} → from < 65536 → FirstStale others latest from to to → Changed from to (λ c. getD others c 0) own own′ → Knows (known-both from to) own′ others latest
+copied-known {from} {to} {own′ = own′} {others = others} {latest = latest} small f a =
+    record { on-host = current-in own′ latest from to small (λ c i j. new-here a c i j ∙ f .before c i j); on-card = current-in others latest from to small (f .before) }
 
 -- memories, flags and tally that hold the state σ, seen from side t
 module _ {arrays : Arrays} {t : Side} {s : Stored} {own others latest : List ℕ} {σ : State} {l : List Event} (h : Holds arrays t s own others latest σ l) where
@@ -54,7 +70,7 @@ module _ {arrays : Arrays} {t : Side} {s : Stored} {own others latest : List ℕ
 
   module _ {x : Cells} {from to : ℕ} (k : CellsAt arrays x from to) where
     pub read-done : Low s → {r : ℕ} → FirstStale own latest from to r → to ≤ r →
-        FollowsAs arrays (read t x) t σ l own others latest (Done (record { flags = s .flags; «other_flags» = s .«other_flags»; reads = s .reads + 1; writes = s .writes; moved = s .moved })) own latest
+        FollowsAs arrays (read t x) t σ l own others latest (Done (record { flags = s .flags; «other_flags» = s .«other_flags»; reads = s .reads + 1; writes = s .writes; moved = s .moved; known = s .known })) own latest
     read-done low {r} f m = (
       all-fine arrays t own latest σ (sees-own low) (within arrays x) from to (λ c z. range-cells k c) (read t x) (λ c. refl) r f m,
       record {
@@ -71,6 +87,7 @@ module _ {arrays : Arrays} {t : Side} {s : Stored} {own others latest : List ℕ
         moved = h .moved;
         counted = h .counted;
         past = h .past;
+        knows = h .knows;
       },
     )
 
@@ -78,9 +95,9 @@ module _ {arrays : Arrays} {t : Side} {s : Stored} {own others latest : List ℕ
     read-unmet low {r} f m =
         stale-at arrays t own latest σ (sees-own low) (within arrays x) from to (λ c z. range-cells k c) (read t x) (λ c. refl) r f m (range-ends k)
 
-    pub write-done : {own′ latest′ : List ℕ} → Changed from to (λ c. s .writes + 1) own own′ → Changed from to (λ c. s .writes + 1) latest latest′ →
-        FollowsAs arrays (write t x) t σ l own others latest (Done (record { flags = s .flags; «other_flags» = s .«other_flags»; reads = s .reads; writes = s .writes + 1; moved = s .moved })) own′ latest′
-    write-done {own′} a b = (
+    pub write-done : from < 65536 → {own′ latest′ : List ℕ} → Changed from to (λ c. s .writes + 1) own own′ → Changed from to (λ c. s .writes + 1) latest latest′ →
+        FollowsAs arrays (write t x) t σ l own others latest (Done (record { flags = s .flags; «other_flags» = s .«other_flags»; reads = s .reads; writes = s .writes + 1; moved = s .moved; known = known-on false from to })) own′ latest′
+    write-done small {own′} a b = (
       none-unmet arrays (write t x) σ (λ c z. refl),
       record {
         own-room = omega (arith, h .own-room, a .size);
@@ -96,12 +113,13 @@ module _ {arrays : Arrays} {t : Side} {s : Stored} {own others latest : List ℕ
         moved = h .moved;
         counted = omega (arith, h .counted);
         past = past-effect arrays (write t x) σ (h .past);
+        knows = written-known small a b;
       },
     )
 
     -- a copy
-    pub copy-follows : Low s → (r : Acted) (own′ : List ℕ) → MovesCells from to s own others latest r own′ → FollowsAs arrays (copy t x) t σ l own others latest r own′ latest
-    copy-follows low (Done s′) own′ (f, a, e) = (
+    pub copy-follows : Low s → from < 65536 → (r : Acted) (own′ : List ℕ) → MovesCells from to s own others latest r own′ → FollowsAs arrays (copy t x) t σ l own others latest r own′ latest
+    copy-follows low small (Done s′) own′ (f, a, e) = (
       all-fine arrays (other t) others latest σ (sees-others low) (within arrays x) from to (λ c z. range-cells k c) (copy t x) (λ c. refl) to f (omega arith),
       rw e (record {
         own-room = omega (arith, h .own-room, a .size);
@@ -117,9 +135,10 @@ module _ {arrays : Arrays} {t : Side} {s : Stored} {own others latest : List ℕ
         moved = omega (arith, h .moved, k .begins, k .ends);
         counted = h .counted;
         past = past-effect arrays (copy t x) σ (h .past);
+        knows = copied-known small f a;
       }),
     )
-    copy-follows low (Unmet c) own′ (f, m, e) = (
+    copy-follows low small (Unmet c) own′ (f, m, e) = (
       stale-at arrays (other t) others latest σ (sees-others low) (within arrays x) from to (λ c z. range-cells k c) (copy t x) (λ c. refl) (c .0) f m (range-ends k),
       e,
       refl,
@@ -144,11 +163,12 @@ module _ {arrays : Arrays} {t : Side} {s : Stored} {own others latest : List ℕ
         moved = omega (arith, h .moved);
         counted = h .counted;
         past = h .past;
+        knows = h .knows;
       }),
     )
 
     -- a need that copies
-    module _ (low : Low s) (e : σ .flag t a ≡ false) where
+    module _ (low : Low s) (small : from < 65536) (e : σ .flag t a ≡ false) where
       need-done : {s′ s″ : Stored} {own′ : List ℕ} → MovesCells from to s own others latest (Done s′) own′ → BothSet s′ a s″ →
           FollowsAs arrays (need t a) t σ l own others latest (Done s″) own′ latest
       need-done {own′ = own′} (f, m, q) b = (
@@ -168,6 +188,7 @@ module _ {arrays : Arrays} {t : Side} {s : Stored} {own others latest : List ℕ
               moved = omega (arith, b .moved, ap (λ (z : Stored). z .moved) q, h .moved, k .begins, k .ends);
               counted = b .writes ∙ ap (λ (z : Stored). z .writes) q ∙ h .counted;
               past = p;
+              knows = rw (b .known ∙ ap (λ (z : Stored). z .known) q) (copied-known small f m);
             }),
       )
 
@@ -184,9 +205,9 @@ module _ {arrays : Arrays} {t : Side} {s : Stored} {own others latest : List ℕ
   pub mark-done : (a : ℕ) (s′ : Stored) →
       s′ .flags ≡ mask (length arrays) (λ b. cond (eqb b a) true (σ .flag t b)) →
       s′ .«other_flags» ≡ mask (length arrays) (λ b. cond (eqb b a) false (σ .flag (other t) b)) →
-      s′ .reads ≡ s .reads → s′ .writes ≡ s .writes → s′ .moved ≡ s .moved →
+      s′ .reads ≡ s .reads → s′ .writes ≡ s .writes → s′ .moved ≡ s .moved → s′ .known ≡ s .known →
       FollowsAs arrays (mark t a) t σ l own others latest (Done s′) own latest
-  mark-done a s′ f g i j k = (
+  mark-done a s′ f g i j k w = (
     none-unmet arrays (mark t a) σ (λ c z. refl),
     record {
       own-room = h .own-room;
@@ -202,5 +223,6 @@ module _ {arrays : Arrays} {t : Side} {s : Stored} {own others latest : List ℕ
       moved = k ∙ h .moved;
       counted = j ∙ h .counted;
       past = past-effect arrays (mark t a) σ (h .past);
+      knows = rw w (h .knows);
     },
   )

@@ -17,6 +17,8 @@ use Rattle.format.proofs.Acts.{by-kind}
 use Rattle.memories.specs.Flags.{mask}
 use Rattle.memories.specs.Inner.Ranges.{FirstStale, Changed, Same, of-side, ChangedOn}
 use Rattle.memories.proofs.Cells.{changed-same, same-all}
+use Rattle.known.specs.declared.Known.{Known}
+use Rattle.known.specs.Inner.Knowing.{Knows, known-on, known-both}
 use Rattle.acts.specs.declared.Stored.{Stored}
 use Rattle.acts.specs.declared.Acted.{Acted}
 use Rattle.acts.specs.declared.Acted.the-variants.{Done, Unmet}
@@ -24,9 +26,13 @@ use Rattle.acts.specs.Inner.Acting.{Low, CellsAt, ArrayAt, Spans, Holds,
 use Rattle.acts.proofs.Stale.{none-stale}
 use Rattle.acts.proofs.Acting.{read-done, read-unmet, write-done, copy-follows, need-idle, need-follows, mark-done}
 
+-- what is known, seen from the other side
+abbrev turned : Known → Known
+turned k = record { host = k .card; card = k .host }
+
 -- what is stored, seen from the other side
 abbrev swapped : Stored → Stored
-swapped s = record { flags = s .«other_flags»; «other_flags» = s .flags; reads = s .reads; writes = s .writes; moved = s .moved }
+swapped s = record { flags = s .«other_flags»; «other_flags» = s .flags; reads = s .reads; writes = s .writes; moved = s .moved; known = turned (s .known) }
 
 -- and seen from a side
 abbrev seen : Bool → Stored → Stored
@@ -48,7 +54,7 @@ moves-seen false from to s own others latest own′ (Done s′) m = m
 moves-seen false from to s own others latest own′ (Unmet c) m = m
 
 both-seen : (b : Bool) (a : ℕ) (r q : Acted) → BothSetAs r a q → BothSetAs (seen-as b r) a (seen-as b q)
-both-seen true a (Done s) (Done s′) m = record { own = m .others; others = m .own; reads = m .reads; writes = m .writes; moved = m .moved }
+both-seen true a (Done s) (Done s′) m = record { own = m .others; others = m .own; reads = m .reads; writes = m .writes; moved = m .moved; known = ap turned (m .known) }
 both-seen false a (Done s) (Done s′) m = m
 both-seen b a (Done s) (Unmet c) m = absurd m
 both-seen b a (Unmet c) (Done s) m = absurd m
@@ -71,6 +77,7 @@ seen-from arrays t u s own others latest σ l e f h = record {
   moved = h .moved;
   counted = h .counted;
   past = h .past;
+  knows = record { on-host = h .knows .on-card; on-card = h .knows .on-host };
 }
 
 -- what a record did, seen from its side, is what it did, where the other side is as it was
@@ -95,42 +102,42 @@ module _ {arrays : Arrays} {s : Stored} {hs cs latest : List ℕ} {σ : State} {
   module _ (low : Low s) where
     module _ {x : Cells} {from to : ℕ} (k : CellsAt arrays x from to) where
       pub read-done-on : (b : Bool) {r : ℕ} → FirstStale (of-side b hs cs) latest from to r → to ≤ r →
-          ActsAs arrays (read (side-on b) x) σ l hs cs latest (Done (record { flags = s .flags; «other_flags» = s .«other_flags»; reads = s .reads + 1; writes = s .writes; moved = s .moved })) hs cs latest
-      read-done-on true f m = acts-on arrays (read card x) σ l hs cs latest true (Done (record { flags = s .flags; «other_flags» = s .«other_flags»; reads = s .reads + 1; writes = s .writes; moved = s .moved })) hs cs latest refl (read-done (holds-on true) k (low-seen true low) f m)
-      read-done-on false f m = acts-on arrays (read host x) σ l hs cs latest false (Done (record { flags = s .flags; «other_flags» = s .«other_flags»; reads = s .reads + 1; writes = s .writes; moved = s .moved })) hs cs latest refl (read-done h k low f m)
+          ActsAs arrays (read (side-on b) x) σ l hs cs latest (Done (record { flags = s .flags; «other_flags» = s .«other_flags»; reads = s .reads + 1; writes = s .writes; moved = s .moved; known = s .known })) hs cs latest
+      read-done-on true f m = acts-on arrays (read card x) σ l hs cs latest true (Done (record { flags = s .flags; «other_flags» = s .«other_flags»; reads = s .reads + 1; writes = s .writes; moved = s .moved; known = s .known })) hs cs latest refl (read-done (holds-on true) k (low-seen true low) f m)
+      read-done-on false f m = acts-on arrays (read host x) σ l hs cs latest false (Done (record { flags = s .flags; «other_flags» = s .«other_flags»; reads = s .reads + 1; writes = s .writes; moved = s .moved; known = s .known })) hs cs latest refl (read-done h k low f m)
 
       pub read-unmet-on : (b : Bool) {r : ℕ} → FirstStale (of-side b hs cs) latest from to r → r < to → lowest-unmet arrays (read (side-on b) x) σ ≡ some r
       read-unmet-on b f m = read-unmet (holds-on b) k (low-seen b low) f m
 
-      pub write-done-on : (b : Bool) {hs′ cs′ latest′ : List ℕ} → ChangedOn b from to (λ c. s .writes + 1) hs cs hs′ cs′ → Changed from to (λ c. s .writes + 1) latest latest′ →
-          ActsAs arrays (write (side-on b) x) σ l hs cs latest (Done (record { flags = s .flags; «other_flags» = s .«other_flags»; reads = s .reads; writes = s .writes + 1; moved = s .moved })) hs′ cs′ latest′
-      write-done-on true {hs′} {cs′} {latest′} a b = acts-on arrays (write card x) σ l hs cs latest true (Done (record { flags = s .flags; «other_flags» = s .«other_flags»; reads = s .reads; writes = s .writes + 1; moved = s .moved })) hs′ cs′ latest′ (a .others) (write-done (holds-on true) k (a .own) b)
-      write-done-on false {hs′} {cs′} {latest′} a b = acts-on arrays (write host x) σ l hs cs latest false (Done (record { flags = s .flags; «other_flags» = s .«other_flags»; reads = s .reads; writes = s .writes + 1; moved = s .moved })) hs′ cs′ latest′ (a .others) (write-done h k (a .own) b)
+      pub write-done-on : from < 65536 → (b : Bool) {hs′ cs′ latest′ : List ℕ} → ChangedOn b from to (λ c. s .writes + 1) hs cs hs′ cs′ → Changed from to (λ c. s .writes + 1) latest latest′ →
+          ActsAs arrays (write (side-on b) x) σ l hs cs latest (Done (record { flags = s .flags; «other_flags» = s .«other_flags»; reads = s .reads; writes = s .writes + 1; moved = s .moved; known = known-on b from to })) hs′ cs′ latest′
+      write-done-on small true {hs′} {cs′} {latest′} a b = acts-on arrays (write card x) σ l hs cs latest true (Done (record { flags = s .flags; «other_flags» = s .«other_flags»; reads = s .reads; writes = s .writes + 1; moved = s .moved; known = known-on true from to })) hs′ cs′ latest′ (a .others) (write-done (holds-on true) k small (a .own) b)
+      write-done-on small false {hs′} {cs′} {latest′} a b = acts-on arrays (write host x) σ l hs cs latest false (Done (record { flags = s .flags; «other_flags» = s .«other_flags»; reads = s .reads; writes = s .writes + 1; moved = s .moved; known = known-on false from to })) hs′ cs′ latest′ (a .others) (write-done h k small (a .own) b)
 
-      pub copy-acts : (b : Bool) {hs′ cs′ : List ℕ} (r : Acted) → MovesOn b from to s hs cs latest r hs′ cs′ → ActsAs arrays (copy (side-on b) x) σ l hs cs latest r hs′ cs′ latest
-      copy-acts b {hs′} {cs′} r m = acts-on arrays (copy (side-on b) x) σ l hs cs latest b r hs′ cs′ latest (m .others)
-          (copy-follows (holds-on b) k (low-seen b low) (seen-as b r) (of-side b hs′ cs′) (moves-seen b from to s (of-side b hs cs) (of-side b cs hs) latest (of-side b hs′ cs′) r (m .moves)))
+      pub copy-acts : from < 65536 → (b : Bool) {hs′ cs′ : List ℕ} (r : Acted) → MovesOn b from to s hs cs latest r hs′ cs′ → ActsAs arrays (copy (side-on b) x) σ l hs cs latest r hs′ cs′ latest
+      copy-acts small b {hs′} {cs′} r m = acts-on arrays (copy (side-on b) x) σ l hs cs latest b r hs′ cs′ latest (m .others)
+          (copy-follows (holds-on b) k (low-seen b low) small (seen-as b r) (of-side b hs′ cs′) (moves-seen b from to s (of-side b hs cs) (of-side b cs hs) latest (of-side b hs′ cs′) r (m .moves)))
 
     module _ {a from to : ℕ} (k : ArrayAt arrays a from to) where
       pub need-idle-on : (b : Bool) → σ .flag (side-on b) a ≡ true → ActsAs arrays (need (side-on b) a) σ l hs cs latest (Done s) hs cs latest
       need-idle-on b e = acts-on arrays (need (side-on b) a) σ l hs cs latest b (Done s) hs cs latest refl (need-idle (holds-on b) k e)
 
-      pub need-acts : (b : Bool) {hs′ cs′ : List ℕ} (r q : Acted) → σ .flag (side-on b) a ≡ false → MovesOn b from to s hs cs latest r hs′ cs′ → BothSetAs r a q → ActsAs arrays (need (side-on b) a) σ l hs cs latest q hs′ cs′ latest
-      need-acts b {hs′} {cs′} r q e m n = acts-on arrays (need (side-on b) a) σ l hs cs latest b q hs′ cs′ latest (m .others)
-          (need-follows (holds-on b) k (low-seen b low) e (seen-as b r) (seen-as b q) (of-side b hs′ cs′) (moves-seen b from to s (of-side b hs cs) (of-side b cs hs) latest (of-side b hs′ cs′) r (m .moves)) (both-seen b a r q n))
+      pub need-acts : from < 65536 → (b : Bool) {hs′ cs′ : List ℕ} (r q : Acted) → σ .flag (side-on b) a ≡ false → MovesOn b from to s hs cs latest r hs′ cs′ → BothSetAs r a q → ActsAs arrays (need (side-on b) a) σ l hs cs latest q hs′ cs′ latest
+      need-acts small b {hs′} {cs′} r q e m n = acts-on arrays (need (side-on b) a) σ l hs cs latest b q hs′ cs′ latest (m .others)
+          (need-follows (holds-on b) k (low-seen b low) small e (seen-as b r) (seen-as b q) (of-side b hs′ cs′) (moves-seen b from to s (of-side b hs cs) (of-side b cs hs) latest (of-side b hs′ cs′) r (m .moves)) (both-seen b a r q n))
 
   -- a mark
   pub mark-card : (b : Bool) (a : ℕ) (s′ : Stored) → b ≡ true →
       s′ .flags ≡ mask (length arrays) (λ d. cond (eqb d a) false (σ .flag host d)) → s′ .«other_flags» ≡ mask (length arrays) (λ d. cond (eqb d a) true (σ .flag card d)) →
-      s′ .reads ≡ s .reads → s′ .writes ≡ s .writes → s′ .moved ≡ s .moved → ActsAs arrays (mark (side-on b) a) σ l hs cs latest (Done s′) hs cs latest
-  mark-card true a s′ e f g i j m = acts-on arrays (mark card a) σ l hs cs latest true (Done s′) hs cs latest refl (mark-done (holds-on true) a (swapped s′) g f i j m)
-  mark-card false a s′ e f g i j m = absurd (true≢false (rw e refl))
+      s′ .reads ≡ s .reads → s′ .writes ≡ s .writes → s′ .moved ≡ s .moved → s′ .known ≡ s .known → ActsAs arrays (mark (side-on b) a) σ l hs cs latest (Done s′) hs cs latest
+  mark-card true a s′ e f g i j m n = acts-on arrays (mark card a) σ l hs cs latest true (Done s′) hs cs latest refl (mark-done (holds-on true) a (swapped s′) g f i j m (ap turned n))
+  mark-card false a s′ e f g i j m n = absurd (true≢false (rw e refl))
 
   pub mark-host : (b : Bool) (a : ℕ) (s′ : Stored) → b ≡ false →
       s′ .flags ≡ mask (length arrays) (λ d. cond (eqb d a) true (σ .flag host d)) → s′ .«other_flags» ≡ mask (length arrays) (λ d. cond (eqb d a) false (σ .flag card d)) →
-      s′ .reads ≡ s .reads → s′ .writes ≡ s .writes → s′ .moved ≡ s .moved → ActsAs arrays (mark (side-on b) a) σ l hs cs latest (Done s′) hs cs latest
-  mark-host false a s′ e f g i j m = acts-on arrays (mark host a) σ l hs cs latest false (Done s′) hs cs latest refl (mark-done h a s′ f g i j m)
-  mark-host true a s′ e f g i j m = absurd (true≢false e)
+      s′ .reads ≡ s .reads → s′ .writes ≡ s .writes → s′ .moved ≡ s .moved → s′ .known ≡ s .known → ActsAs arrays (mark (side-on b) a) σ l hs cs latest (Done s′) hs cs latest
+  mark-host false a s′ e f g i j m n = acts-on arrays (mark host a) σ l hs cs latest false (Done s′) hs cs latest refl (mark-done h a s′ f g i j m n)
+  mark-host true a s′ e f g i j m n = absurd (true≢false e)
 
 -- a copy to a side, unmet or done
 pub move-unmet : (b : Bool) (from to : ℕ) (s : Stored) (hs cs latest : List ℕ) {r : ℕ} → FirstStale (of-side (not b) hs cs) latest from to r → r < to → MovesOn b from to s hs cs latest (Unmet (record { 0 = r })) hs cs
@@ -138,7 +145,7 @@ move-unmet true from to s hs cs latest f m = record { moves = (f, m, refl); othe
 move-unmet false from to s hs cs latest f m = record { moves = (f, m, refl); others = refl }
 
 pub move-done : (b : Bool) (from to : ℕ) (s : Stored) (hs cs latest hs′ cs′ : List ℕ) {r : ℕ} → FirstStale (of-side (not b) hs cs) latest from to r → to ≤ r → ChangedOn b from to (λ c. getD (of-side b cs hs) c 0) hs cs hs′ cs′ →
-    MovesOn b from to s hs cs latest (Done (record { flags = s .flags; «other_flags» = s .«other_flags»; reads = s .reads; writes = s .writes; moved = s .moved + (to - from) })) hs′ cs′
+    MovesOn b from to s hs cs latest (Done (record { flags = s .flags; «other_flags» = s .«other_flags»; reads = s .reads; writes = s .writes; moved = s .moved + (to - from); known = known-both from to })) hs′ cs′
 move-done true from to s hs cs latest hs′ cs′ f m a = record { moves = (none-stale f m, a .own, refl); others = a .others }
 move-done false from to s hs cs latest hs′ cs′ f m a = record { moves = (none-stale f m, a .own, refl); others = a .others }
 

@@ -7,8 +7,13 @@ ghost use lib.Dec.{eqb};
 ghost use Rattle.model.specs.Sides.{Arrays, Cells};
 ghost use Rattle.model.specs.Effects.{read, write, copy, need, mark};
 ghost use Rattle.format.specs.Plans.{action-of};
-ghost use Rattle.memories.specs.Inner.Ranges.{Same};
+ghost use Rattle.memories.specs.Inner.Ranges.{AllCurrent, FirstStale, Same, of-side};
+ghost use Rattle.known.specs.Inner.Knowing.{Knows};
 ghost use Rattle.acts.specs.Inner.Acting.{Rooms, Low, CellsAt, ArrayAt, Spans, BothSet, BothSetAs, Acts, side-on, flags-on, MovesOn};
+use known::Known;
+use known::known_both;
+use known::known_on;
+use known::sure;
 use memories::copy_on;
 use memories::fill;
 use memories::fill_on;
@@ -23,19 +28,39 @@ use reading::kinds::NEED;
 use reading::kinds::READ;
 use reading::kinds::WRITE;
 
-// What a run keeps besides the memories: the flags of the host, those of the card, and the tally.
+// What a run keeps besides the memories: the flags of the host, those of the card, the tally, and what it knows of the cells.
 pub struct Stored {
     pub flags: u32,
     pub other_flags: u32,
     pub reads: u64,
     pub writes: u64,
     pub moved: u64,
+    pub known: Known,
 }
 
 // A record has acted, or the lowest cell in which its need is unmet.
 pub enum Acted {
     Done(Stored),
     Unmet(Cell),
+}
+
+// The first of the cells `from` up to `to` whose copy on a side is stale, `to` if none is. Those that are known to be current are not compared.
+fn stale_cell<'a>(
+    known: bool,
+    on_card: bool,
+    from: usize,
+    to: usize,
+    host: &'a [u64],
+    card: &'a [u64],
+    latest: &[u64],
+) -> usize
+    requires { ⌜ (known ≡ true → AllCurrent (of-side «on_card» (now host) (now card)) (now latest) from to) × Rooms from to (now host) (now card) (now latest) ⌝ }
+    ensures { λ r. ⌜ FirstStale (of-side «on_card» (now (host .entry)) (now (card .entry))) (now (latest .entry)) from to r ⌝ }
+{
+    if known {
+        return to;
+    }
+    stale_on(on_card, host, card, latest, from, to)
 }
 
 // A read of the cells `from` up to `to` on a side.
@@ -48,10 +73,12 @@ fn act_read<'a>(
     card: &'a [u64],
     latest: &[u64],
 ) -> Acted
-    requires { ⌜ Low s × Rooms from to (now host) (now card) (now latest) ⌝ }
+    requires { ⌜ Low s × Knows (s .known) (now host) (now card) (now latest) × Rooms from to (now host) (now card) (now latest) ⌝ }
     ensures { λ r. ⌜ ((arrays : Arrays) (x : Cells) → CellsAt arrays x from to → Acts arrays (read (side-on «on_card») x) s (now (host .entry)) (now (card .entry)) (now (latest .entry)) r (now (host .entry)) (now (card .entry)) (now (latest .entry))) ⌝ }
 {
-    let c = stale_on(on_card, host, card, latest, from, to);
+    let k = s.known;
+    let known = sure(k, on_card, from, to);
+    let c = stale_cell(known, on_card, from, to, host, card, latest);
     if c < to {
         return Acted::Unmet(Cell(c as u16));
     }
@@ -61,6 +88,7 @@ fn act_read<'a>(
         reads: s.reads + 1,
         writes: s.writes,
         moved: s.moved,
+        known: k,
     })
 }
 
@@ -87,6 +115,7 @@ fn act_write(
         reads: s.reads,
         writes: k,
         moved: s.moved,
+        known: known_on(on_card, from, to),
     })
 }
 
@@ -100,10 +129,11 @@ fn act_copy(
     card: &mut [u64],
     latest: &[u64],
 ) -> Acted
-    requires { ⌜ Low s × Rooms from to (now host) (now card) (now latest) ⌝ }
+    requires { ⌜ Low s × Knows (s .known) (now host) (now card) (now latest) × Rooms from to (now host) (now card) (now latest) ⌝ }
     ensures { λ r. ⌜ MovesOn «on_card» from to s (now (host .entry)) (now (card .entry)) (now (latest .entry)) r (now (host .exit)) (now (card .exit)) ⌝ }
 {
-    let c = stale_on(!on_card, host, card, latest, from, to);
+    let known = sure(s.known, !on_card, from, to);
+    let c = stale_cell(known, !on_card, from, to, host, card, latest);
     if c < to {
         return Acted::Unmet(Cell(c as u16));
     }
@@ -114,6 +144,7 @@ fn act_copy(
         reads: s.reads,
         writes: s.writes,
         moved: s.moved + (to - from) as u64,
+        known: known_both(from, to),
     })
 }
 
@@ -122,12 +153,14 @@ fn both_set(s: Stored, array: u8) -> Stored
     requires { ⌜ array < 32 ⌝ }
     ensures { λ r. ⌜ BothSet s array r ⌝ }
 {
+    let k = s.known;
     Stored {
         flags: with_flag(s.flags, array),
         other_flags: with_flag(s.other_flags, array),
         reads: s.reads,
         writes: s.writes,
         moved: s.moved,
+        known: k,
     }
 }
 
@@ -165,7 +198,7 @@ fn act_move(
     card: &mut [u64],
     latest: &[u64],
 ) -> Acted
-    requires { ⌜ Low s × (array < 32) × Rooms from to (now host) (now card) (now latest) ⌝ }
+    requires { ⌜ Low s × Knows (s .known) (now host) (now card) (now latest) × (array < 32) × Rooms from to (now host) (now card) (now latest) ⌝ }
     ensures copies { λ r. ⌜ (needs ≡ false → (arrays : Arrays) (x : Cells) → CellsAt arrays x from to → Acts arrays (copy (side-on «on_card») x) s (now (host .entry)) (now (card .entry)) (now (latest .entry)) r (now (host .exit)) (now (card .exit)) (now (latest .entry))) ⌝ }
     ensures needed { λ r. ⌜ (needs ≡ true → (arrays : Arrays) → ArrayAt arrays array from to → Acts arrays (need (side-on «on_card») array) s (now (host .entry)) (now (card .entry)) (now (latest .entry)) r (now (host .exit)) (now (card .exit)) (now (latest .entry))) ⌝ }
     ensures same { λ _. ⌜ Same to (now (host .entry)) (now (host .exit)) × Same to (now (card .entry)) (now (card .exit)) ⌝ }
@@ -185,6 +218,7 @@ fn act_mark(on_card: bool, array: u8, s: Stored) -> Acted
     requires { ⌜ array < 32 ⌝ }
     ensures { λ r. ⌜ ((arrays : Arrays) (from to : ℕ) (host card latest : List ℕ) → ArrayAt arrays array from to → Acts arrays (mark (side-on «on_card») array) s host card latest r host card latest) ⌝ }
 {
+    let k = s.known;
     if on_card {
         return Acted::Done(Stored {
             flags: without_flag(s.flags, array),
@@ -192,6 +226,7 @@ fn act_mark(on_card: bool, array: u8, s: Stored) -> Acted
             reads: s.reads,
             writes: s.writes,
             moved: s.moved,
+            known: k,
         });
     }
     Acted::Done(Stored {
@@ -200,6 +235,7 @@ fn act_mark(on_card: bool, array: u8, s: Stored) -> Acted
         reads: s.reads,
         writes: s.writes,
         moved: s.moved,
+        known: k,
     })
 }
 
@@ -214,7 +250,7 @@ pub fn act(
     card: &mut [u64],
     latest: &mut [u64],
 ) -> Acted
-    requires { ⌜ Low s × (1 ≤ x .kind) × (x .kind ≤ 5) × (x .array < 32) × Rooms from to (now host) (now card) (now latest) ⌝ }
+    requires { ⌜ Low s × Knows (s .known) (now host) (now card) (now latest) × (1 ≤ x .kind) × (x .kind ≤ 5) × (x .array < 32) × Rooms from to (now host) (now card) (now latest) ⌝ }
     ensures follows { λ r. ⌜ ((arrays : Arrays) → Spans arrays (action-of x) from to → Acts arrays (action-of x) s (now (host .entry)) (now (card .entry)) (now (latest .entry)) r (now (host .exit)) (now (card .exit)) (now (latest .exit))) ⌝ }
     ensures host { λ _. ⌜ Same to (now (host .entry)) (now (host .exit)) ⌝ }
     ensures card { λ _. ⌜ Same to (now (card .entry)) (now (card .exit)) ⌝ }

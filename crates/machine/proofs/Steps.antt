@@ -34,6 +34,7 @@ use Rattle.acts.specs.declared.Acted.{Acted}
 use Rattle.acts.specs.declared.Acted.the-variants.{Done, Unmet}
 use Rattle.standing.specs.Choices.{choices-of}
 use Rattle.memories.specs.Inner.Ranges.{Room, Same}
+use Rattle.known.specs.Inner.Knowing.{Knows}
 use Rattle.acts.specs.Inner.Acting.{Rooms, Low, Spans, Holds, Acts}
 use Rattle.places.specs.Inner.Places.{Spot, skipped, into, settled, chosen, rest-of, left-of, weight, Part, Placed}
 use Rattle.standing.specs.Inner.Standing.{Runner, stored-with, tally-with, past-record, ended-with, moved-to, after-act, tally-after, tested, measure, next-record, said-of, Stands, StepsAs, Steps, Stood, Reaches}
@@ -90,6 +91,7 @@ pub record Able (arrays : Arrays) (x : Fields) (from to : ℕ) (s : Stored) (at 
   pub kind : (1 ≤ x .kind) × (x .kind ≤ 5)
   pub array : x .array < 32
   pub low : Low s
+  pub knows : Knows (s .known) own others latest
   pub rooms : Rooms from to own others latest
   pub inside : to ≤ cells arrays
   pub spans : Spans arrays (action-of x) from to
@@ -148,7 +150,7 @@ module _ (f choices : List ℕ) (m : Runner) (own others latest : List ℕ) (t :
   -- a branch or a test takes a choice
   took : (c : Spot) (b : Block) → p .used < length choices → p .at ≡ next-record (k .left) →
       step arrays k ≡ Step.next (config b (choices-of (drop (suc (p .used)) choices)) (k .state) (k .history)) →
-      left-of f c ≡ b → Placed f c → Starts f (c .room) → c .used ≡ p .used + 1 → Stepped (moved-to m (settled c) (m .flags) (m .others)) own others latest t
+      left-of f c ≡ b → Placed f c → Starts f (c .room) → c .used ≡ p .used + 1 → Stepped (moved-to m (settled c) (m .flags) (m .others) (m .known)) own others latest t
   unfolding measure
   took c b h number s l placed starts u =
       let q = settling f (c .depth) c refl placed in
@@ -228,7 +230,7 @@ module _ (f choices : List ℕ) (m : Runner) (own others latest : List ℕ) (t :
       rest = rest-part f (m .bodies) (w .plain) (p .depth) (p .at) (p .end) part h x e
 
       abbrev Took : Spot → Type 0
-      Took c = Stepped (moved-to m (settled c) (m .flags) (m .others)) own others latest t
+      Took c = Stepped (moved-to m (settled c) (m .flags) (m .others) (m .known)) own others latest t
 
       branch-took : x .kind ≡ 6 → Took (chosen p x byte)
       unfolding chosen
@@ -272,7 +274,7 @@ module _ (f choices : List ℕ) (m : Runner) (own others latest : List ℕ) (t :
         a : x .kind ≤ 7
         a = kind-is f (m .bodies) (w .plain) (p .depth) (p .at) (p .end) part h x e .1
 
-        by-kind : (u : p .used < length choices) → Stepped (moved-to m (settled (chosen p x (getD choices (p .used) 0))) (m .flags) (m .others)) own others latest t
+        by-kind : (u : p .used < length choices) → Stepped (moved-to m (settled (chosen p x (getD choices (p .used) 0))) (m .flags) (m .others) (m .known)) own others latest t
         by-kind u = elim (ℕᴺ-discrete (x .kind) 6) [ yes z ↦ branch-took u z | no z ↦ loop-took u (omega (arith, a)) ]
 
         none-left : p .used ≡ length choices → step arrays k ≡ Step.ends (out-of-choices (p .at))
@@ -281,7 +283,7 @@ module _ (f choices : List ℕ) (m : Runner) (own others latest : List ℕ) (t :
           | no z ↦ step-at arrays k _ [] (w .left ∙ loop-here (omega (arith, a))) (spent u)
         ]
 
-        go : (b : Bool) → eqb (p .used) (length choices) ≡ b → Stepped (cond b (ended-with m (Refused 22 (p .at))) (moved-to m (settled (chosen p x (getD choices (p .used) 0))) (m .flags) (m .others))) own others latest t
+        go : (b : Bool) → eqb (p .used) (length choices) ≡ b → Stepped (cond b (ended-with m (Refused 22 (p .at))) (moved-to m (settled (chosen p x (getD choices (p .used) 0))) (m .flags) (m .others) (m .known))) own others latest t
         go true u = end-here (Refused 22 (p .at)) (out-of-choices (p .at)) refl (none-left (eqb-true _ _ u))
         go false u = by-kind (let n = eqb-false (p .used) (length choices) u in omega (arith, w .used, n))
 
@@ -293,7 +295,7 @@ module _ (f choices : List ℕ) (m : Runner) (own others latest : List ℕ) (t :
     at-act : x .kind ≤ 5 → (s : Stored) (own′ others′ latest′ : List ℕ) → lowest-unmet arrays (action-of x) (k .state) ≡ none →
         Holds arrays host s own′ others′ latest′ (effect arrays (action-of x) (k .state)) (event (action-of x) (k .state) ∷ k .history) →
         tally arrays (event (action-of x) (k .state) ∷ k .history) .moved ≤ tally arrays (k .history) .moved + 4096 →
-        Stepped (moved-to m (settled (past-record p)) (s .flags) (s .«other_flags»)) own′ others′ latest′ (tally-with s)
+        Stepped (moved-to m (settled (past-record p)) (s .flags) (s .«other_flags») (s .known)) own′ others′ latest′ (tally-with s)
     unfolding measure weight
     at-act y s own′ others′ latest′ o held b =
         let a = no-arms x (λ z. omega arith) (λ z. omega arith) in
@@ -342,6 +344,7 @@ module _ (f choices : List ℕ) (m : Runner) (own others latest : List ℕ) (t :
           record {
             kind = kinds;
             array = few-arrays f (m .bodies) (w .plain) x fit kinds;
+            knows = w .holds .knows;
             low = record {
               reads = omega (arith, w .holds .reads, n .0, w .few, w .used, w .many);
               writes = omega (arith, w .holds .writes, n .1, w .few, w .used, w .many);

@@ -8,6 +8,7 @@ ghost use Rattle.places.specs.Inner.Places.{spot};
 ghost use Rattle.standing.specs.Inner.Standing.{runner, stored-with, past-record, after-act, tally-after, ended-with, moved-to, tested};
 use acts::Acted;
 use acts::Stored;
+use known::Known;
 use model::Record;
 use model::Tally;
 use model::Verdict;
@@ -16,7 +17,7 @@ use places::choose;
 use places::settle;
 use reading::Fields;
 
-// Where a run stands, its flags, and where the plan's bodies begin; the record that the last step executed. The verdict is that of a run that has ended, accepted while it runs.
+// Where a run stands, its flags, what it knows of the cells, and where the plan's bodies begin; the record that the last step executed. The verdict is that of a run that has ended, accepted while it runs.
 // The counters stand in the tally alone.
 pub struct Machine {
     pub place: Place,
@@ -26,6 +27,7 @@ pub struct Machine {
     pub last: Record,
     pub verdict: Verdict,
     pub running: bool,
+    pub known: Known,
 }
 
 // A machine, and the tally that stands beside it.
@@ -39,6 +41,7 @@ fn ended(m: Machine, v: Verdict) -> Machine
     ensures { λ r. ⌜ ((room : List ℕ) → runner r room ≡ ended-with (runner m room) v) ⌝ }
 {
     let p = m.place;
+    let k = m.known;
     let last = m.last;
     Machine {
         place: p,
@@ -48,6 +51,7 @@ fn ended(m: Machine, v: Verdict) -> Machine
         last: last,
         verdict: v,
         running: false,
+        known: k,
     }
 }
 
@@ -62,9 +66,9 @@ pub fn over(m: Machine, v: Verdict, kept: Tally) -> Stepped
 }
 
 // The run has moved on from a record.
-fn moved(m: Machine, p: Place, flags: u32, other_flags: u32) -> Machine
+fn moved(m: Machine, p: Place, flags: u32, other_flags: u32, k: Known) -> Machine
     requires { ⌜ m .place .at < 65536 ⌝ }
-    ensures { λ r. ⌜ ((room : List ℕ) → runner r room ≡ moved-to (runner m room) (spot p room) flags «other_flags») ⌝ }
+    ensures { λ r. ⌜ ((room : List ℕ) → runner r room ≡ moved-to (runner m room) (spot p room) flags «other_flags» k) ⌝ }
 {
     let q = m.place;
     let v = m.verdict;
@@ -76,6 +80,7 @@ fn moved(m: Machine, p: Place, flags: u32, other_flags: u32) -> Machine
         last: Record(q.at as u16),
         verdict: v,
         running: m.running,
+        known: k,
     }
 }
 
@@ -90,7 +95,7 @@ pub fn test(m: Machine, x: Fields, choices: &[u8], room: &mut [u16]) -> Machine
         return ended(m, Verdict::Refused(22, p.at as u16));
     }
     let q = choose(p, x, choices[used], room);
-    moved(m, settle(q, room), m.flags, m.other_flags)
+    moved(m, settle(q, room), m.flags, m.other_flags, m.known)
 }
 
 // The place past a record without arms.
@@ -107,12 +112,14 @@ fn past(p: Place) -> Place
 pub fn acted_on(m: Machine, t: Tally) -> Stored
     ensures { λ r. ⌜ ((room : List ℕ) → r ≡ stored-with (runner m room) t) ⌝ }
 {
+    let k = m.known;
     Stored {
         flags: m.flags,
         other_flags: m.other_flags,
         reads: t.reads,
         writes: t.writes,
         moved: t.moved,
+        known: k,
     }
 }
 
@@ -123,7 +130,7 @@ pub fn after(m: Machine, r: Acted, room: &[u16]) -> Machine
 {
     let p = m.place;
     match r {
-        Acted::Done(s) => moved(m, settle(past(p), room), s.flags, s.other_flags),
+        Acted::Done(s) => moved(m, settle(past(p), room), s.flags, s.other_flags, s.known),
         Acted::Unmet(c) => ended(m, Verdict::Stopped(Record(p.at as u16), c)),
     }
 }

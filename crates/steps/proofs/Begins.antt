@@ -72,6 +72,7 @@ module _ (f choices : List ℕ) (facts : Facts f) (kind : kind-of f ≡ 2) where
           moved = refl;
           counted = refl;
           past = past {plan = plan-of f} {cs = choices-of choices} here;
+          knows = record { on-host = λ c i j. absurd (omega arith); on-card = λ c i j. absurd (omega arith) };
         };
         few = omega (arith, facts .bounds .records);
         few-moved = omega arith;

@@ -5,6 +5,7 @@
 use cuplihang_tests::generate::*;
 use cuplihang_tests::walker::check::summary;
 use cuplihang_tests::walker::{self, Memories, Tally};
+use std::cell::RefCell;
 use std::hint::black_box;
 use std::time::{Duration, Instant};
 
@@ -35,11 +36,30 @@ fn round(work: &mut dyn FnMut()) -> f64 {
     start.elapsed().as_nanos() as f64 / f64::from(calls)
 }
 
-/// What a service may use: an output, memories, choices.
+/// Cells of a memory, and of a line of 64 bytes.
+const CELLS: usize = 4096;
+const LINE: usize = 8;
+
+/// What a service may use: an output, memories, choices. Library and walker are
+/// lent the same, since where a memory stands decides up to a fifth of a copy.
 struct Room {
     out: Vec<u8>,
-    memories: [Vec<u64>; 3],
+    cells: Vec<u64>,
     choices: Vec<u8>,
+}
+
+impl Room {
+    fn new(choices: &[u8]) -> RefCell<Room> {
+        let cells = vec![0; 3 * (CELLS + LINE) + LINE];
+        RefCell::new(Room { out: vec![0; 9000], cells, choices: choices.to_vec() })
+    }
+
+    /// Three memories, each beginning at a line and a line apart.
+    fn memories(&mut self) -> ([&mut [u64]; 3], &[u8]) {
+        let start = self.cells.as_ptr().align_offset(64);
+        let mut parts = self.cells[start..].chunks_exact_mut(CELLS + LINE);
+        (std::array::from_fn(|_| &mut parts.next().unwrap()[..CELLS]), &self.choices)
+    }
 }
 
 /// A service on one file.
@@ -48,13 +68,11 @@ type Work = fn(&[u8], &mut Room);
 /// Files for one line of the output.
 type Inputs = (&'static str, Vec<Vec<u8>>);
 
-/// A service on all these files, with a room of its own.
-fn on<'a>(files: &'a [Vec<u8>], choices: &[u8], work: Work) -> impl FnMut() + 'a {
-    let memories = std::array::from_fn(|_| vec![0; 4096]);
-    let mut room = Room { out: vec![0; 9000], memories, choices: choices.to_vec() };
+/// A service on all these files.
+fn on<'a>(files: &'a [Vec<u8>], room: &'a RefCell<Room>, work: Work) -> impl FnMut() + 'a {
     move || {
         for file in files {
-            work(black_box(file), &mut room);
+            work(black_box(file), &mut room.borrow_mut());
         }
     }
 }
@@ -62,13 +80,14 @@ fn on<'a>(files: &'a [Vec<u8>], choices: &[u8], work: Work) -> impl FnMut() + 'a
 /// Prints one line: the library's time where it is linked, the walker's, the
 /// ratio. Gives the library's time, else the walker's.
 fn compare(name: &str, files: &[Vec<u8>], choices: &[u8], library: Option<Work>, walker: Work) -> f64 {
-    let mut walk = on(files, choices, walker);
+    let room = Room::new(choices);
+    let mut walk = on(files, &room, walker);
     let Some(library) = library else {
         let [theirs] = times([&mut walk]);
         println!("{name:<48} walker {theirs:>13.0} ns");
         return theirs;
     };
-    let [ours, theirs] = times([&mut on(files, choices, library), &mut walk]);
+    let [ours, theirs] = times([&mut on(files, &room, library), &mut walk]);
     println!("{name:<48} library {ours:>13.0} ns  walker {theirs:>13.0} ns  ratio {:.2}", ours / theirs);
     ours
 }
@@ -111,9 +130,9 @@ mod library {
     pub const RUN: Option<Work> = None;
     #[cfg(feature = "run")]
     pub const RUN: Option<Work> = Some(|file, room| {
-        let [host, card, latest] = &mut room.memories;
+        let (memories, choices) = room.memories();
         let (mut tally, mut end) = ([0; 3], [0; 5]);
-        black_box(archive::run(file, [host, card, latest], &room.choices, &mut tally, &mut end));
+        black_box(archive::run(file, memories, choices, &mut tally, &mut end));
     });
 }
 
@@ -212,6 +231,7 @@ fn run_inputs() -> Vec<(Inputs, Vec<u8>)> {
     let looping =
         |arrays: &[u16], arm: &[Step]| vec![encode(&Draft::plain(arrays, &[Step::Loop(arm.to_vec())]))];
     let large = [write(0, 0, 0, 4096), copy(1, 0, 0, 4096), copy(0, 0, 0, 4096)];
+    let in_turn = [copy(1, 0, 0, 64), copy(1, 1, 0, 64), copy(0, 0, 0, 64), copy(0, 1, 0, 64)];
     let mixed = [write(0, 0, 0, 1), need(1, 1), copy(1, 0, 0, 1), read(1, 0, 0, 1), mark(0, 1)];
     let nested = (0..20).map(|_| nested(&mut rng)).collect();
     let at_random = choices(&mut rng, 65_536, 90);
@@ -219,6 +239,7 @@ fn run_inputs() -> Vec<(Inputs, Vec<u8>)> {
     vec![
         (("run: long run, large copies", looping(&[4096], &large)), turns.clone()),
         (("run: long run, copies of 64 cells", vec![encode(&copying(4, 64))]), turns.clone()),
+        (("run: the same of two arrays in turn", looping(&[64, 64], &in_turn)), turns.clone()),
         (("run: long run, one-cell records", looping(&[1, 1], &mixed)), turns.clone()),
         (("run: choices alone", looping(&[1], &[])), turns),
         (("run: nested branches and loops at random", nested), at_random),
@@ -237,9 +258,9 @@ fn nested(rng: &mut Rng) -> Vec<u8> {
 fn bench_run() {
     for ((name, files), list) in run_inputs() {
         compare(name, &files, &list, library::RUN, |file, room| {
-            let [host, card, latest] = &mut room.memories;
+            let ([host, card, latest], choices) = room.memories();
             let mut memories = Memories { sides: [host, card], latest };
-            black_box(walker::run(file, &mut memories, &room.choices, &mut Tally::default()));
+            black_box(walker::run(file, &mut memories, choices, &mut Tally::default()));
         });
     }
     copied_cell();
@@ -249,12 +270,14 @@ fn bench_run() {
 /// compared with latest, then copied.
 fn copied_cell() {
     const COPIES: usize = 1000;
-    let cells = (COPIES * 4096) as f64;
-    let (mut host, mut card, latest) = (vec![0u64; 4096], vec![0u64; 4096], vec![0u64; 4096]);
+    let cells = (COPIES * CELLS) as f64;
+    let room = Room::new(&[1, 0]);
     let mut plain = || {
+        let mut room = room.borrow_mut();
+        let ([host, card, latest], _) = room.memories();
         for copy in 0..COPIES {
-            let (from, to) = if copy % 2 == 0 { (&host, &mut card) } else { (&card, &mut host) };
-            assert!(black_box(from) == black_box(&latest));
+            let (from, to) = if copy % 2 == 0 { (&*host, &mut *card) } else { (&*card, &mut *host) };
+            assert!(black_box(from) == black_box(&*latest));
             to.copy_from_slice(from);
         }
     };
@@ -263,8 +286,8 @@ fn copied_cell() {
         println!("{:<48} in Rust {:.3} ns", "run: a copied cell", plain / cells);
         return;
     };
-    let file = [encode(&copying(COPIES, 4096))];
-    let [ours, plain] = times([&mut on(&file, &[1, 0], run), &mut plain]);
+    let file = [encode(&copying(COPIES, CELLS as u16))];
+    let [ours, plain] = times([&mut on(&file, &room, run), &mut plain]);
     let (cell, plain_cell) = (ours / cells, plain / cells);
     println!(
         "{:<48} library {cell:>13.3} ns  in Rust {plain_cell:>12.3} ns  ratio {:.2}",

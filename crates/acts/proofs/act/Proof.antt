@@ -72,7 +72,7 @@ returns-4 c =
     let w = c .before .before .before .before .act-move in
     let n = c .before .before .before .before .before .before .before .before .match .rest in
     let p = w .ensures .1 .1 in
-    (here-move (a .x) (a .from) (a .to) (a .s) (a .host .now) (a .card .now) (a .latest .now) (w .result) (b .pre .1, b .pre .2) (n .0 .0 .1) (n .0 .1) (n .1) _ _ (w .ensures .0) (w .ensures .1 .0), (p .0, (p .1, same-all _ _)))
+    (here-move (a .x) (a .from) (a .to) (a .s) (a .host .now) (a .card .now) (a .latest .now) (w .result) (b .pre .2, b .pre .3) (n .0 .0 .1) (n .0 .1) (n .1) _ _ (w .ensures .0) (w .ensures .1 .0), (p .0, (p .1, same-all _ _)))
 
 pub act-spec : {M : Type 1} → statement M
 act-spec =

@@ -5,22 +5,25 @@ use Rattle.acts.proofs.Turning.{read-done-on, read-unmet-on}
 use borrow.Author.Needs.{needs}
 use Rattle.acts.proofs.act_read.Statement.{statement}
 use Rattle.acts.proofs.act_read.Tie as tie
-use Rattle.memories.proofs.stale_on.Reads as stale-on-reads
+use Rattle.acts.proofs.stale_cell.Reads as stale-cell-reads
 
-stale-on-requires : tie.Need-stale-on-requires
-stale-on-requires c κs = search needs
+sure-requires : tie.Need-sure-requires
+sure-requires c κs = search needs
 
-cast-t10 : tie.Need-cast-t10
-cast-t10 c = search needs
+stale-cell-requires : tie.Need-stale-cell-requires
+stale-cell-requires c κs = let p = c .before .before .before .before .before .pre in (c .sure .ensures _ _ _ (p .1), p .2)
+
+cast-t12 : tie.Need-cast-t12
+cast-t12 c = search needs
 
 returns : tie.Need-returns
-returns c = λ arrays x k σ l h. (read-unmet-on h (c .before .before .before .before .before .pre .0) k (c .before .before .before .before .before .args .on-card) (c .before .stale-on .ensures) (c .if1 .taken), refl, refl, refl)
+returns c = λ arrays x k σ l h. (read-unmet-on h (c .before .before .before .before .before .before .before .pre .0) k (c .before .before .before .before .before .before .before .args .on-card) (c .before .stale-cell .ensures) (c .if1 .taken), refl, refl, refl)
 
-add-t12 : tie.Need-add-t12
-add-t12 c = search needs
+add-t14 : tie.Need-add-t14
+add-t14 c = search needs
 
 returns-2 : tie.Need-returns-2
-returns-2 c = λ arrays x k σ l h. read-done-on h (c .before .before .before .before .before .before .pre .0) k (c .before .before .before .before .before .before .args .on-card) (c .before .before .stale-on .ensures) (omega arith)
+returns-2 c = λ arrays x k σ l h. read-done-on h (c .before .before .before .before .before .before .before .before .pre .0) k (c .before .before .before .before .before .before .before .before .args .on-card) (c .before .before .stale-cell .ensures) (omega arith)
 
 pub act-read-spec : {M : Type 1} → statement M
-act-read-spec = tie.close (tie.spec stale-on-requires cast-t10 returns add-t12 returns-2)
+act-read-spec = tie.close (tie.spec sure-requires stale-cell-requires cast-t12 returns add-t14 returns-2)

@@ -17,6 +17,7 @@ use Rattle.acts.specs.declared.Acted.the-variants.{Done, Unmet}
 use Rattle.memories.specs.Memories.{number-of}
 use Rattle.memories.specs.Flags.{mask}
 use Rattle.memories.specs.Inner.Ranges.{Room, FirstStale, Changed, of-side}
+use Rattle.known.specs.Inner.Knowing.{Knows, known-both}
 
 -- the cells `from` up to `to` lie inside three memories, and they are no more than a plan has
 pub record Rooms (from to : ℕ) (own others latest : List ℕ) : Type 0 where
@@ -66,6 +67,7 @@ pub record Holds (arrays : Arrays) (t : Side) (s : Stored) (own others latest : 
   pub moved : s .moved ≡ tally arrays l .moved
   pub counted : s .writes ≡ σ .writes
   pub past : Past σ
+  pub knows : Knows (s .known) own others latest
 
 -- r is s with the flag of array a set on both sides
 pub record BothSet (s : Stored) (a : ℕ) (r : Stored) : Type 0 where
@@ -74,6 +76,7 @@ pub record BothSet (s : Stored) (a : ℕ) (r : Stored) : Type 0 where
   pub reads : r .reads ≡ s .reads
   pub writes : r .writes ≡ s .writes
   pub moved : r .moved ≡ s .moved
+  pub known : r .known ≡ s .known
 
 -- the same where a record has acted
 abbrev pub BothSetAs : Acted → ℕ → Acted → Type 0
@@ -113,7 +116,7 @@ abbrev pub MovesCells : ℕ → ℕ → Stored → List ℕ → List ℕ → Lis
 MovesCells from to s own others latest (Done s′) own′ =
     FirstStale others latest from to to
     × Changed from to (λ c. getD others c 0) own own′
-    × (s′ ≡ record { flags = s .flags; «other_flags» = s .«other_flags»; reads = s .reads; writes = s .writes; moved = s .moved + (to - from) })
+    × (s′ ≡ record { flags = s .flags; «other_flags» = s .«other_flags»; reads = s .reads; writes = s .writes; moved = s .moved + (to - from); known = known-both from to })
 MovesCells from to s own others latest (Unmet c) own′ = FirstStale others latest from to (c .0) × (c .0 < to) × (own′ ≡ own)
 
 -- to one side, and the other side is as it was

@@ -112,7 +112,8 @@ acted-on-requires c κs = search needs
 act-requires : tie.Need-act-requires
 act-requires c κs =
     let r = able-here (c .before .before .before .before .before .before) in
-    (rw (c .before .before .before .acted-on .ensures (c .before .before .before .before .before .before .before .before .before .before .before .before .before .before .before .before .before .before .before .before .before .args .room .now)) (r .low), r .kind .0, r .kind .1, r .array, rw (c .before .before .before .before .before .first-cell .ensures, c .before .before .before .before .next-cell .ensures) (r .rooms))
+    let s = c .before .before .before .acted-on .ensures (c .before .before .before .before .before .before .before .before .before .before .before .before .before .before .before .before .before .before .before .before .before .args .room .now) in
+    (rw s (r .low), rw s (r .knows), r .kind .0, r .kind .1, r .array, rw (c .before .before .before .before .before .first-cell .ensures, c .before .before .before .before .next-cell .ensures) (r .rooms))
 
 after-requires : tie.Need-after-requires
 after-requires c κs = let w = c .before .before .before .before .before .before .before .before .before .before .before .before .before .before .before .before .before .before .before .before .before .before .before .before .before .before .before .before .before .pre .1 .stands .placed in (able-here (c .before .before .before .before .before .before .before .before .before .before .before .before .before .before) .few, w .shallow, w .size)

@@ -20,6 +20,7 @@ use Rattle.format.specs.Inner.Walks.{Plain, Starts}
 use Rattle.acts.specs.declared.Stored.{Stored}
 use Rattle.acts.specs.declared.Acted.{Acted}
 use Rattle.acts.specs.declared.Acted.the-variants.{Done, Unmet}
+use Rattle.known.specs.declared.Known.{Known}
 use Rattle.places.specs.Inner.Places.{Spot, spot, settled, chosen, left-of, weight, Placed}
 use Rattle.standing.specs.declared.Machine.{Machine}
 use Rattle.standing.specs.Choices.{choices-of}
@@ -30,6 +31,7 @@ pub record Runner : Type 0 where
   pub place : Spot
   pub flags : ℕ
   pub others : ℕ
+  pub known : Known
   pub bodies : ℕ
   pub last : Record
   pub verdict : Verdict
@@ -37,11 +39,11 @@ pub record Runner : Type 0 where
 
 -- from its two parts
 abbrev pub runner : Machine → List ℕ → Runner
-runner m room = record { place = spot (m .place) room; flags = m .flags; others = m .«other_flags»; bodies = m .bodies; last = m .last; verdict = m .verdict; running = m .running }
+runner m room = record { place = spot (m .place) room; flags = m .flags; others = m .«other_flags»; known = m .known; bodies = m .bodies; last = m .last; verdict = m .verdict; running = m .running }
 
--- its flags with a tally: what a record acts on
+-- its flags and what it knows with a tally: what a record acts on
 abbrev pub stored-with : Runner → Tally → Stored
-stored-with m t = record { flags = m .flags; «other_flags» = m .others; reads = t .reads; writes = t .writes; moved = t .moved }
+stored-with m t = record { flags = m .flags; «other_flags» = m .others; reads = t .reads; writes = t .writes; moved = t .moved; known = m .known }
 
 -- the tally of that
 abbrev pub tally-with : Stored → Tally
@@ -53,15 +55,15 @@ past-record p = record { at = p .at + 1; end = p .end; depth = p .depth; used = 
 
 -- the run has ended
 abbrev pub ended-with : Runner → Verdict → Runner
-ended-with m v = record { place = m .place; flags = m .flags; others = m .others; bodies = m .bodies; last = m .last; verdict = v; running = false }
+ended-with m v = record { place = m .place; flags = m .flags; others = m .others; known = m .known; bodies = m .bodies; last = m .last; verdict = v; running = false }
 
 -- the run has moved on from a record
-abbrev pub moved-to : Runner → Spot → ℕ → ℕ → Runner
-moved-to m p flags others = record { place = p; flags = flags; others = others; bodies = m .bodies; last = record { 0 = m .place .at }; verdict = m .verdict; running = m .running }
+abbrev pub moved-to : Runner → Spot → ℕ → ℕ → Known → Runner
+moved-to m p flags others k = record { place = p; flags = flags; others = others; known = k; bodies = m .bodies; last = record { 0 = m .place .at }; verdict = m .verdict; running = m .running }
 
 -- where the run stands after a record without arms
 abbrev pub after-act : Runner → Acted → Runner
-after-act m (Done s) = moved-to m (settled (past-record (m .place))) (s .flags) (s .«other_flags»)
+after-act m (Done s) = moved-to m (settled (past-record (m .place))) (s .flags) (s .«other_flags») (s .known)
 after-act m (Unmet c) = ended-with m (Stopped (record { 0 = m .place .at }) c)
 
 -- the tally after it
@@ -73,7 +75,7 @@ tally-after t (Unmet c) = t
 unfoldable pub tested : Runner → Fields → List ℕ → Runner
 tested m x choices =
     cond (eqb (m .place .used) (length choices)) (ended-with m (Refused 22 (m .place .at)))
-    (moved-to m (settled (chosen (m .place) x (getD choices (m .place .used) 0))) (m .flags) (m .others))
+    (moved-to m (settled (chosen (m .place) x (getD choices (m .place .used) 0))) (m .flags) (m .others) (m .known))
 
 -- more than the weight of any place
 abbrev pub heavy : ℕ

@@ -1,5 +1,5 @@
 -- `run_to_end` runs an opened plain plan to its end.
-use mathlib.Core.Path.{refl, ap, _∙_}
+use mathlib.Core.Path.{refl, sym, ap, _∙_}
 use native.Mathlib.Omega.{arith}
 use Rattle.memories.proofs.Cells.{changed-same, same-twice}
 use Rattle.steps.proofs.Begins.{reaches-start, ready-found, ready-facts, ready-plain, ready-front}
@@ -37,7 +37,7 @@ first-machine-requires c κs =
     omega (arith, ap (λ x. x .arrays) (ready-found _ _ _ _ _ _ a), ready-facts _ _ _ _ _ _ a .bounds .header .arrays)
 
 slice-aggregate-run-steps : tie.Need-slice-aggregate-run-steps
-slice-aggregate-run-steps c = search needs
+slice-aggregate-run-steps c = sym (c .before .before .before .before .before .before .before .before .before .before .before .before .before .before .before .before .before .before .put-starts .ensures .size)
 
 run-steps-requires : tie.Need-run-steps-requires
 run-steps-requires c κs =

@@ -1,0 +1,2 @@
+-- What is known of a range of cells.
+pub mod Ranges

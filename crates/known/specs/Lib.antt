@@ -1,0 +1,2 @@
+-- What a run knows of its cells.
+pub mod Inner
