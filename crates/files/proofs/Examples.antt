@@ -7,7 +7,7 @@ use Rattle.model.specs.Sides.{card, first-of}
 use Rattle.model.specs.Effects.{read}
 use Rattle.model.specs.Blocks.{Block, Plan}
 use Rattle.model.specs.Rows.{first, each}
-use Rattle.reading.specs.Bytes.{u16-at, table, length-at, arrays-of, entry-at, sizes-of, fields-from, fields-at, first-arm, second-arm}
+use Rattle.reading.specs.Bytes.{u16-at, table, length-at, arrays-of, entry-at, sizes-of, fields-at, first-arm, second-arm}
 use Rattle.sums.specs.Sums.{plain-sum, weighted-sum, check-bytes}
 use Rattle.frame.specs.Frame.{header-fits, header-rows, checks-fit, tail-rows}
 use Rattle.contents.specs.Contents.{array-rows, body-rows, contents-rows, front-rows}
@@ -25,11 +25,11 @@ plan : Plan
 plan = record { arrays = 1 ∷ []; body = Block.act 0 (read card (record { array = 0; p = 0; q = 1 })) Block.done }
 
 opens : opening bytes ≡ Accepted
-unfolding bytes first each u16-at length-at table arrays-of entry-at sizes-of fields-from fields-at first-of plain-sum weighted-sum header-fits header-rows array-rows body-rows contents-rows checks-fit tail-rows fields-fit allowed first-arm second-arm deepest record-rows block-rows records-rows front-rows open-rows opening
+unfolding bytes first each u16-at length-at table arrays-of entry-at sizes-of fields-at first-of plain-sum weighted-sum header-fits header-rows array-rows body-rows contents-rows checks-fit tail-rows fields-fit allowed first-arm second-arm deepest record-rows block-rows records-rows front-rows open-rows opening
 opens = refl
 
 is-plan : plan-of bytes ≡ plan
-unfolding bytes plan u16-at length-at table arrays-of entry-at sizes-of fields-from fields-at first-of first-arm second-arm action-of block-of plan-of
+unfolding bytes plan u16-at length-at table arrays-of entry-at sizes-of fields-at first-of first-arm second-arm action-of block-of plan-of
 is-plan = refl
 
 is-file : plain-file plan ≡ bytes

@@ -11,7 +11,7 @@ use Rattle.model.specs.declared.Verdict.the-variants.{Accepted}
 use Rattle.model.specs.Sides.{first-of}
 use Rattle.reading.specs.declared.Fields.{Fields}
 use Rattle.contents.specs.declared.Opened.{Opened}
-use Rattle.reading.specs.Bytes.{byte-at, u16-at, array-count, body-count, length-at, arrays-of, records-in, sizes-of, first-record, bodies-at, fields-from, fields-at, first-arm, second-arm}
+use Rattle.reading.specs.Bytes.{byte-at, u16-at, array-count, body-count, length-at, arrays-of, records-in, sizes-of, first-record, bodies-at, fields-at, first-arm, second-arm}
 use Rattle.format.specs.Opening.{open-rows, opening}
 use Rattle.contents.specs.Found.{found}
 use Rattle.format.specs.Views.{body-view-answer, body-at, body-bytes, viewed, body-view}
@@ -21,7 +21,7 @@ use Rattle.reading.proofs.Tables.{next-cell, next-record, first-rises}
 use Rattle.format.proofs.Views.{view-some}
 use Rattle.format.proofs.Walking.{steps, opened-facts, array-start, body-start}
 use Rattle.format.proofs.Acts.{arms}
-use Rattle.listing.specs.Inner.Bodies.{Listable}
+use Rattle.listing.specs.Inner.Bodies.{fields-in, Listable}
 
 -- entry a of a table of first numbers: it is one of 32, and the next entry is no smaller
 pub record Entry (starts : List ℕ) (a : ℕ) : Type 0 where
@@ -45,8 +45,8 @@ moved s t p q w = rw (p, q) at w
 
 -- eight bytes that are the same give the same fields
 module _ (g f : List ℕ) (a c : ℕ) (near : (m n k : ℕ) → m ≡ a + k → n ≡ c + k → k < 8 → byte-at g m ≡ byte-at f n) where
-  same-fields : fields-from g a ≡ fields-from f c
-  unfolding fields-from u16-at
+  same-fields : _≡_ {A = Fields} (record { kind = byte-at g a; side = byte-at g (a + 1); array = byte-at g (a + 2); zero = byte-at g (a + 3); p = u16-at g (a + 4); q = u16-at g (a + 6) }) (record { kind = byte-at f c; side = byte-at f (c + 1); array = byte-at f (c + 2); zero = byte-at f (c + 3); p = u16-at f (c + 4); q = u16-at f (c + 6) })
+  unfolding u16-at
   same-fields =
       let e₀ = near a c 0 (omega arith) (omega arith) (omega arith) in
       let e₁ = near (a + 1) (c + 1) 1 refl refl (omega arith) in
@@ -63,8 +63,8 @@ module _ (f : List ℕ) (b : ℕ) where
   near : (k : ℕ) → k < 8 * records-in f b → byte-at (body-bytes f b) k ≡ byte-at f (bodies-at f + 8 * first-record f b + k)
   near k h = getD-take (8 * records-in f b) (drop (body-at f b) f) k 0 h ∙ getD-drop (body-at f b) f k 0
 
-  record-near : (i : ℕ) → i < records-in f b → fields-from (body-bytes f b) (8 * i) ≡ fields-at f (first-record f b + i)
-  unfolding fields-at
+  record-near : (i : ℕ) → i < records-in f b → fields-in (body-bytes f b) i ≡ fields-at f (first-record f b + i)
+  unfolding fields-in fields-at
   record-near i h = same-fields (body-bytes f b) f (8 * i) (bodies-at f + 8 * (first-record f b + i)) (λ m n k p q l. rw (p, q) (near (8 * i + k) (omega arith) ∙ ap (byte-at f) (omega arith)))
 
 module _ (f : List ℕ) (o : Opened) (a : Accepted ≡ opening f) (e : o ≡ found f) where
@@ -104,7 +104,7 @@ pub record Parts (body : List ℕ) (first r end i j : ℕ) : Type 0 where
   pub two : Listable body first (r + 1 + i) (r + 1 + i + j)
   pub rest : Listable body first (r + 1 + i + j) end
 
-pub parts : {body : List ℕ} {first r end : ℕ} {x : Fields} → Listable body first r end → r < end → x ≡ fields-from body (8 * r) → (i j : ℕ) → i ≡ first-arm x → j ≡ second-arm x → Parts body first r end i j
+pub parts : {body : List ℕ} {first r end : ℕ} {x : Fields} → Listable body first r end → r < end → x ≡ fields-in body r → (i j : ℕ) → i ≡ first-arm x → j ≡ second-arm x → Parts body first r end i j
 parts {first = first} {r = r} {end = end} w h e i j p q =
     let a = arms (steps (w .plan) (first + r) (first + end) (omega arith) (w .walks) _ (e ∙ w .same r h)) i j p q in
     let n : r + 1 + i + j ≤ end = omega (arith, a .inside) in

@@ -72,20 +72,18 @@ record-count f = first-record f (body-count f)
 abbrev pub bodies-at : List ℕ → ℕ
 bodies-at f = entry-at f (body-count f)
 
--- "A record: kind, side, array, zero, then two numbers of two bytes, P and Q.", where it begins at byte i
-unfoldable pub fields-from : List ℕ → ℕ → Fields
-fields-from f i = record {
-  kind = byte-at f i;
-  side = byte-at f (i + 1);
-  array = byte-at f (i + 2);
-  zero = byte-at f (i + 3);
-  p = u16-at f (i + 4);
-  q = u16-at f (i + 6);
-}
-
--- record r of the file: "eight bytes a record"
+-- "A record: kind, side, array, zero, then two numbers of two bytes, P and Q."
 unfoldable pub fields-at : List ℕ → ℕ → Fields
-fields-at f r = fields-from f (bodies-at f + 8 * r)
+fields-at f r =
+    let i = bodies-at f + 8 * r in
+    record {
+      kind = byte-at f i;
+      side = byte-at f (i + 1);
+      array = byte-at f (i + 2);
+      zero = byte-at f (i + 3);
+      p = u16-at f (i + 4);
+      q = u16-at f (i + 6);
+    }
 
 -- low ≤ x ≤ high
 abbrev pub between : ℕ → ℕ → ℕ → Bool

@@ -2,7 +2,7 @@
 ghost use mathlib.Core.Path.{_≡_};
 ghost use Prim.Native.Nat.{_+_, _*_, _≤_, _<_};
 ghost use lib.ListN.{length, getD};
-ghost use Rattle.reading.specs.Bytes.{byte-at, u16-at, entry-at, bodies-at, fields-from, fields-at, first-arm, second-arm};
+ghost use Rattle.reading.specs.Bytes.{byte-at, u16-at, entry-at, bodies-at, fields-at, first-arm, second-arm};
 ghost use Rattle.reading.specs.Inner.Cells.{from-of, to-of};
 use kinds::BRANCH;
 use kinds::COPY;
@@ -52,11 +52,12 @@ pub fn number_at(plan: &[u8], at: usize) -> u16
     wide(plan[at]) + wide(plan[at + 1]) * 256
 }
 
-// The fields of the record that begins at a place inside the plan, or inside a part of it.
-pub fn fields_from(plan: &[u8], at: usize) -> Fields
-    requires { ⌜ at + 8 ≤ length (now plan) ⌝ }
-    ensures { λ x. ⌜ x ≡ fields-from (now (plan .entry)) at ⌝ }
+// The fields of record r, which stands inside a plan whose bodies begin at `bodies`.
+pub fn record_at(plan: &[u8], bodies: usize, r: usize) -> Fields
+    requires { ⌜ (bodies ≡ bodies-at (now plan)) × (bodies + 8 * r + 8 ≤ length (now plan)) ⌝ }
+    ensures { λ x. ⌜ x ≡ fields-at (now (plan .entry)) r ⌝ }
 {
+    let at = bodies + 8 * r;
     Fields {
         kind: plan[at],
         side: plan[at + 1],
@@ -65,14 +66,6 @@ pub fn fields_from(plan: &[u8], at: usize) -> Fields
         p: number_at(plan, at + 4),
         q: number_at(plan, at + 6),
     }
-}
-
-// The fields of record r, which stands inside a plan whose bodies begin at `bodies`.
-pub fn record_at(plan: &[u8], bodies: usize, r: usize) -> Fields
-    requires { ⌜ (bodies ≡ bodies-at (now plan)) × (bodies + 8 * r + 8 ≤ length (now plan)) ⌝ }
-    ensures { λ x. ⌜ x ≡ fields-at (now (plan .entry)) r ⌝ }
-{
-    fields_from(plan, bodies + 8 * r)
 }
 
 // How many records the first arm has, none where the kind has no such arm.

@@ -7,7 +7,7 @@ use native.Mathlib.Omega.{arith}
 use lib.ListN.{length, take, drop, length-drop}
 use lib.Seq.{take-suc, getD-drop, take-add, drop-drop, drop-at, length-take-le}
 use Rattle.reading.specs.declared.Fields.{Fields}
-use Rattle.reading.specs.Bytes.{byte-at, u16-at, table, array-count, length-at, arrays-of, bodies-at, fields-from, fields-at}
+use Rattle.reading.specs.Bytes.{byte-at, u16-at, table, array-count, length-at, arrays-of, bodies-at, fields-at}
 use Rattle.files.specs.Files.{u16-bytes, record-bytes, joined}
 use Rattle.given.specs.Inner.Over.{bytes-of}
 use Rattle.given.proofs.Records.{joined-append, bytes-append}
@@ -45,7 +45,7 @@ module _ (f : List ℕ) (small : (i : ℕ) → byte-at f i < 256) where
   lengths-again h = joined-table f u16-bytes (length-at f) 2 4 (array-count f) (λ a l. length-again a (omega arith))
 
   record-again : (r : ℕ) → bodies-at f + 8 * r + 8 ≤ length f → record-bytes (fields-at f r) ≡ take 8 (drop (bodies-at f + 8 * r) f)
-  unfolding fields-at fields-from table
+  unfolding fields-at table
   record-again r h =
       let i = bodies-at f + 8 * r in
       let p : i + 4 + 1 ≡ i + 5 = omega arith in

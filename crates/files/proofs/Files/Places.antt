@@ -12,7 +12,7 @@ use borrow.Author.Tests.{eq-eqb}
 use Rattle.model.specs.Sides.{Arrays, cells, length-of, first-of}
 use Rattle.model.proofs.Booleans.{and-in}
 use Rattle.reading.specs.declared.Fields.{Fields}
-use Rattle.reading.specs.Bytes.{byte-at, u16-at, kind-of, array-count, body-count, length-at, arrays-of, entry-at, records-in, declarations-in, last-of-entry, sizes-of, first-record, record-count, bodies-at, fields-from, fields-at}
+use Rattle.reading.specs.Bytes.{byte-at, u16-at, kind-of, array-count, body-count, length-at, arrays-of, entry-at, records-in, declarations-in, last-of-entry, sizes-of, first-record, record-count, bodies-at, fields-at}
 use Rattle.sums.specs.Sums.{plain-sum, weighted-sum, check-bytes}
 use Rattle.frame.specs.Frame.{checks-fit}
 use Rattle.files.specs.Files.{u16-bytes, record-bytes, Body, entry-bytes, joined, front, file}
@@ -95,7 +95,7 @@ module _ (f : List ℕ) where
       }
 
   fields-are : (r : ℕ) (x : Fields) → Holds (byte-at f) (bodies-at f + 8 * r) (record-bytes x) → fields-at f r ≡ x
-  unfolding fields-at fields-from
+  unfolding fields-at
   fields-are r x (more e0 (more e1 (more e2 (more e3 (more e4 (more e5 (more e6 (more e7 none)))))))) =
       let i = bodies-at f + 8 * r in
       let p-is : u16-at f (i + 4) ≡ x .p = u16-is f (i + 4) (x .p) (rw add-four (more e4 (more e5 none))) in

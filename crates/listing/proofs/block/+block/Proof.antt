@@ -9,7 +9,7 @@ use borrow.Fn.PlainCycle.{Measures, is, falls, and}
 use Rattle.listing.proofs.block.block.Reads as block
 use Rattle.listing.proofs.block.block.Kinds as block-kinds
 use Rattle.listing.proofs.block.+block.Lts-block as block-lts
-use Rattle.reading.proofs.fields_from.Reads as fields-from-reads
+use Rattle.listing.proofs.block.record_in.Reads as record-in-reads
 use Rattle.reading.proofs.first_arm.Reads as first-arm-reads
 use Rattle.reading.proofs.second_arm.Reads as second-arm-reads
 use Rattle.lines.proofs.records.else_line.Reads as else-line-reads
@@ -34,22 +34,19 @@ block-μ-loop page₀ at body first level from end waiting₀ r₀ page waiting 
 
 -- what each callee asks and gives, this one below t
 abbrev calls : ℕ → block-lts.Claims
-calls t = (fields-from-reads.Asked, fields-from-reads.Learnt, first-arm-reads.Asked, first-arm-reads.Learnt, second-arm-reads.Asked, second-arm-reads.Learnt, record-lines-reads.Asked, record-lines-reads.Learnt, block-below t, block.Post, else-line-reads.Asked, else-line-reads.Learnt)
+calls t = (record-in-reads.Asked, record-in-reads.Learnt, first-arm-reads.Asked, first-arm-reads.Learnt, second-arm-reads.Asked, second-arm-reads.Learnt, record-lines-reads.Asked, record-lines-reads.Learnt, block-below t, block.Post, else-line-reads.Asked, else-line-reads.Learnt)
 
 -- what is known of record r's arms once they are read
 known : (t : ℕ) (c : block-lts.After-second-arm (calls t) (block-at t) block.Post block-Inv-loop block-μ-loop) → Parts (c .before .before .before .before .before .before .args .body .now) (c .before .before .before .before .before .before .args .first) (c .before .before .before .before .loop .r) (c .before .before .before .before .before .before .args .end) (c .before .first-arm .result) (c .second-arm .result)
 known t c =
     let l = c .before .before .before .before .loop in
-    parts (l .inv .2) (c .before .before .before .loop-test .taken) (c .before .before .fields-from .ensures) _ _ (c .before .first-arm .ensures .0) (c .second-arm .ensures .0)
+    parts (l .inv .2) (c .before .before .before .loop-test .taken) (c .before .before .record-in .ensures) _ _ (c .before .first-arm .ensures .0) (c .second-arm .ensures .0)
 
 block-loop-holds : (t : ℕ) → block-lts.Need-loop-holds (calls t) (block-at t) block.Post block-Inv-loop block-μ-loop
 block-loop-holds t c = (search needs, search needs, c .before .pre .1 .3)
 
-block-mul-fields-from : (t : ℕ) → block-lts.Need-mul-fields-from (calls t) (block-at t) block.Post block-Inv-loop block-μ-loop
-block-mul-fields-from t c = search needs
-
-block-fields-from-requires : (t : ℕ) → block-lts.Need-fields-from-requires (calls t) (block-at t) block.Post block-Inv-loop block-μ-loop
-block-fields-from-requires t c κs = search needs
+block-record-in-requires : (t : ℕ) → block-lts.Need-record-in-requires (calls t) (block-at t) block.Post block-Inv-loop block-μ-loop
+block-record-in-requires t c κs = search needs
 
 block-add-second : (t : ℕ) → block-lts.Need-add-second (calls t) (block-at t) block.Post block-Inv-loop block-μ-loop
 block-add-second t c = search needs
@@ -109,8 +106,7 @@ pub +block-spec : {M : Type 1} → statement M
     block-Inv-loop
     block-μ-loop
     (block-loop-holds t)
-    (block-mul-fields-from t)
-    (block-fields-from-requires t)
+    (block-record-in-requires t)
     (block-add-second t)
     (block-first-arm-requires t)
     (block-add-second-2 t)
