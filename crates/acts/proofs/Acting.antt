@@ -1,7 +1,7 @@
 -- What a record of each kind does to memories, flags and tally that hold a state, path by path: it follows the model, or it is unmet and changes nothing.
 use Prim.Native.Nat.{ℕ, suc, _+_, _≤_, _<_}
 use mathlib.Core.Path.{_≡_, refl, ap, sym, _∙_}
-use mathlib.Core.Bool.{Bool, true, false, cond, _&&_, _||_}
+use mathlib.Core.Bool.{Bool, true, false, cond, _&&_}
 use mathlib.Core.List.{List}
 use mathlib.Core.Option.{some}
 use native.Mathlib.Omega.{arith}
@@ -19,15 +19,13 @@ use Rattle.acts.specs.declared.Acted.the-variants.{Done, Unmet}
 use Rattle.memories.specs.Memories.{number-of}
 use Rattle.memories.specs.Flags.{mask}
 use Rattle.memories.specs.Inner.Ranges.{among, FirstStale, Changed}
-use Rattle.known.specs.Inner.Knowing.{Knows, known-on, known-both}
-use Rattle.known.proofs.Ranges.{current-in, none-in}
-use Rattle.memories.proofs.Masks.{mask-same}
-use Rattle.acts.specs.Inner.Acting.{Low, CellsAt, ArrayAt, Holds, BothSet, BothSetAs, FollowsAs, MovesCells}
-use Rattle.acts.proofs.Stale.{among-true, range-ends, range-cells, array-cells-end, array-cells, Sees, all-fine, stale-at}
-
-set-or : (b f : Bool) → cond b true f ≡ (b || f)
-set-or true f = refl
-set-or false f = refl
+use Rattle.known.specs.declared.Known.{Known}
+use Rattle.known.specs.Inner.Knowing.{Knows, Wrote, Copied}
+use Rattle.known.proofs.Sets.{Piece, added-sound, dropped-sound}
+use Rattle.memories.proofs.Masks.{mask-same, set-or}
+use Rattle.memories.proofs.Cells.{among-out}
+use Rattle.acts.specs.Inner.Acting.{Low, CellsAt, ArrayAt, CellsOf, Holds, BothSet, BothSetAs, FollowsAs, MovesCells}
+use Rattle.acts.proofs.Stale.{range-ends, range-cells, array-cells-end, array-cells, range-piece, array-piece, Sees, all-fine, stale-at}
 
 chosen-number : (b : Bool) (i j : ℕ) (x y : Stamp) → i ≡ number-of x → j ≡ number-of y → cond b i j ≡ number-of (cond b x y)
 chosen-number true i j x y p q = p
@@ -36,19 +34,31 @@ chosen-number false i j x y p q = q
 chosen-stamp : (b : Bool) (i j k m : ℕ) → i ≡ k → j ≡ m → cond b i j ≡ cond b k m
 chosen-stamp b i j k m p q = rw (p, q)
 
--- a cell of the range is as `new` says
-new-here : {from to : ℕ} {new : ℕ → ℕ} {before after : List ℕ} → Changed from to new before after → (c : ℕ) → from ≤ c → c < to → getD after c 0 ≡ new c
-new-here {from} {to} a c i j = rw (among-true from to c i j) at (a .cell c)
+-- a cell of the range is as `new` says, and every other as it was
+new-here : {from to : ℕ} {new : ℕ → ℕ} {before after : List ℕ} → Changed from to new before after → (c : ℕ) → among from to c ≡ true → getD after c 0 ≡ new c
+new-here a c e = rw e at (a .cell c)
+
+kept-there : {from to : ℕ} {new : ℕ → ℕ} {before after : List ℕ} → Changed from to new before after → (c : ℕ) → among from to c ≡ false → getD after c 0 ≡ getD before c 0
+kept-there a c e = rw e at (a .cell c)
 
 -- what is known after a write, seen from its side
-written-known : {from to k : ℕ} {own own′ others latest latest′ : List ℕ} → from < 65536 → Changed from to (λ c. k) own own′ → Changed from to (λ c. k) latest latest′ → Knows (known-on false from to) own′ others latest′
-written-known {from} {to} {own′ = own′} {others = others} {latest′ = latest′} small a b =
-    record { on-host = current-in own′ latest′ from to small (λ c i j. new-here a c i j ∙ sym (new-here b c i j)); on-card = none-in others latest′ }
+written-known : {arrays : Arrays} {a : ℕ} {whole : Bool} {from to n : ℕ} {k k′ : Known} {own own′ others latest latest′ : List ℕ} → Piece arrays a whole from to → Wrote false whole a k k′ →
+    Changed from to (λ c. n) own own′ → Changed from to (λ c. n) latest latest′ → Knows arrays k own others latest → Knows arrays k′ own′ others latest′
+written-known p w x y m = record {
+  on-host = added-sound p (w .own) (λ c e. new-here x c e ∙ sym (new-here y c e)) (kept-there x) (kept-there y) (m .on-host);
+  on-card = dropped-sound p (w .others) (kept-there y) (m .on-card);
+}
 
 -- and after a copy
-copied-known : {from to : ℕ} {own own′ others latest : List ℕ} → from < 65536 → FirstStale others latest from to to → Changed from to (λ c. getD others c 0) own own′ → Knows (known-both from to) own′ others latest
-copied-known {from} {to} {own′ = own′} {others = others} {latest = latest} small f a =
-    record { on-host = current-in own′ latest from to small (λ c i j. new-here a c i j ∙ f .before c i j); on-card = current-in others latest from to small (f .before) }
+copied-known : {arrays : Arrays} {a : ℕ} {whole : Bool} {from to : ℕ} {k k′ : Known} {own own′ others latest : List ℕ} → Piece arrays a whole from to → Copied whole a k k′ →
+    FirstStale others latest from to to → Changed from to (λ c. getD others c 0) own own′ → Knows arrays k own others latest → Knows arrays k′ own′ others latest
+copied-known {from = from} {to = to} {others = others} {latest = latest} p w f x m = record {
+  on-host = added-sound p (w .on-host) (λ c e. new-here x c e ∙ source c e) (kept-there x) (λ c e. refl) (m .on-host);
+  on-card = added-sound p (w .on-card) source (λ c e. refl) (λ c e. refl) (m .on-card);
+}
+  where
+    source : (c : ℕ) → among from to c ≡ true → getD others c 0 ≡ getD latest c 0
+    source c e = let i = among-out from to c e in f .before c (i .0) (i .1)
 
 -- memories, flags and tally that hold the state σ, seen from side t
 module _ {arrays : Arrays} {t : Side} {s : Stored} {own others latest : List ℕ} {σ : State} {l : List Event} (h : Holds arrays t s own others latest σ l) where
@@ -95,9 +105,13 @@ module _ {arrays : Arrays} {t : Side} {s : Stored} {own others latest : List ℕ
     read-unmet low {r} f m =
         stale-at arrays t own latest σ (sees-own low) (within arrays x) from to (λ c z. range-cells k c) (read t x) (λ c. refl) r f m (range-ends k)
 
-    pub write-done : from < 65536 → {own′ latest′ : List ℕ} → Changed from to (λ c. s .writes + 1) own own′ → Changed from to (λ c. s .writes + 1) latest latest′ →
-        FollowsAs arrays (write t x) t σ l own others latest (Done (record { flags = s .flags; «other_flags» = s .«other_flags»; reads = s .reads; writes = s .writes + 1; moved = s .moved; known = known-on false from to })) own′ latest′
-    write-done small {own′} a b = (
+  module _ {x : Cells} {a : ℕ} {whole : Bool} {from to : ℕ} (z : CellsOf arrays x a whole from to) where
+    abbrev k : CellsAt arrays x from to
+    k = z .range
+
+    pub write-done : (n : Known) → Wrote false whole a (s .known) n → {own′ latest′ : List ℕ} → Changed from to (λ c. s .writes + 1) own own′ → Changed from to (λ c. s .writes + 1) latest latest′ →
+        FollowsAs arrays (write t x) t σ l own others latest (Done (record { flags = s .flags; «other_flags» = s .«other_flags»; reads = s .reads; writes = s .writes + 1; moved = s .moved; known = n })) own′ latest′
+    write-done n w {own′} a b = (
       none-unmet arrays (write t x) σ (λ c z. refl),
       record {
         own-room = omega (arith, h .own-room, a .size);
@@ -113,13 +127,13 @@ module _ {arrays : Arrays} {t : Side} {s : Stored} {own others latest : List ℕ
         moved = h .moved;
         counted = omega (arith, h .counted);
         past = past-effect arrays (write t x) σ (h .past);
-        knows = written-known small a b;
+        knows = written-known (range-piece z) w a b (h .knows);
       },
     )
 
     -- a copy
-    pub copy-follows : Low s → from < 65536 → (r : Acted) (own′ : List ℕ) → MovesCells from to s own others latest r own′ → FollowsAs arrays (copy t x) t σ l own others latest r own′ latest
-    copy-follows low small (Done s′) own′ (f, a, e) = (
+    pub copy-follows : Low s → (r : Acted) (own′ : List ℕ) → MovesCells a whole from to s own others latest r own′ → FollowsAs arrays (copy t x) t σ l own others latest r own′ latest
+    copy-follows low (Done s′) own′ (f, a, e, n) = (
       all-fine arrays (other t) others latest σ (sees-others low) (within arrays x) from to (λ c z. range-cells k c) (copy t x) (λ c. refl) to f (omega arith),
       rw e (record {
         own-room = omega (arith, h .own-room, a .size);
@@ -135,10 +149,10 @@ module _ {arrays : Arrays} {t : Side} {s : Stored} {own others latest : List ℕ
         moved = omega (arith, h .moved, k .begins, k .ends);
         counted = h .counted;
         past = past-effect arrays (copy t x) σ (h .past);
-        knows = copied-known small f a;
+        knows = copied-known (range-piece z) n f a (h .knows);
       }),
     )
-    copy-follows low small (Unmet c) own′ (f, m, e) = (
+    copy-follows low (Unmet c) own′ (f, m, e) = (
       stale-at arrays (other t) others latest σ (sees-others low) (within arrays x) from to (λ c z. range-cells k c) (copy t x) (λ c. refl) (c .0) f m (range-ends k),
       e,
       refl,
@@ -168,10 +182,10 @@ module _ {arrays : Arrays} {t : Side} {s : Stored} {own others latest : List ℕ
     )
 
     -- a need that copies
-    module _ (low : Low s) (small : from < 65536) (e : σ .flag t a ≡ false) where
-      need-done : {s′ s″ : Stored} {own′ : List ℕ} → MovesCells from to s own others latest (Done s′) own′ → BothSet s′ a s″ →
+    module _ (whole : Bool) (low : Low s) (e : σ .flag t a ≡ false) where
+      need-done : {s′ s″ : Stored} {own′ : List ℕ} → MovesCells a whole from to s own others latest (Done s′) own′ → BothSet s′ a s″ →
           FollowsAs arrays (need t a) t σ l own others latest (Done s″) own′ latest
-      need-done {own′ = own′} (f, m, q) b = (
+      need-done {own′ = own′} (f, m, q, n) b = (
         all-fine arrays (other t) others latest σ (sees-others low) (λ c. eqb (array-of arrays c) a) from to (array-cells k) (need t a) (λ c. rw e) to f (omega arith),
         let p = rw e at (past-effect arrays (need t a) σ (h .past)) in
             rw e (record {
@@ -188,7 +202,7 @@ module _ {arrays : Arrays} {t : Side} {s : Stored} {own others latest : List ℕ
               moved = omega (arith, b .moved, ap (λ (z : Stored). z .moved) q, h .moved, k .begins, k .ends);
               counted = b .writes ∙ ap (λ (z : Stored). z .writes) q ∙ h .counted;
               past = p;
-              knows = rw (b .known ∙ ap (λ (z : Stored). z .known) q) (copied-known small f m);
+              knows = rw (b .known) (copied-known (array-piece k) n f m (h .knows));
             }),
       )
 
@@ -196,7 +210,7 @@ module _ {arrays : Arrays} {t : Side} {s : Stored} {own others latest : List ℕ
       need-unmet {r} f m =
           stale-at arrays (other t) others latest σ (sees-others low) (λ c. eqb (array-of arrays c) a) from to (array-cells k) (need t a) (λ c. rw e) r f m (array-cells-end k)
 
-      pub need-follows : (r q : Acted) (own′ : List ℕ) → MovesCells from to s own others latest r own′ → BothSetAs r a q → FollowsAs arrays (need t a) t σ l own others latest q own′ latest
+      pub need-follows : (r q : Acted) (own′ : List ℕ) → MovesCells a whole from to s own others latest r own′ → BothSetAs r a q → FollowsAs arrays (need t a) t σ l own others latest q own′ latest
       need-follows (Done s′) (Done s″) own′ m b = need-done m b
       need-follows (Done s′) (Unmet c) own′ m b = absurd b
       need-follows (Unmet c) (Done s″) own′ m b = absurd b

@@ -5,24 +5,20 @@ use mathlib.Core.Bool.{Bool, true, false, not, _||_, true≢false}
 use mathlib.Core.List.{List}
 use mathlib.Core.Option.{none, some}
 use native.Mathlib.Omega.{arith}
-use lib.Dec.{leb, ltb, eqb}
+use lib.Dec.{eqb}
 use lib.ListN.{getD}
-use borrow.Author.Tests.{ltb-true, leb-true, lt-ltb, le-leb, eq-eqb, ne-eqb}
+use borrow.Author.Tests.{eq-eqb, ne-eqb, eqb-true}
 use Rattle.model.specs.Sides.{Side, Stamp, never, at, equals, Arrays, cells, length-of, first-of, array-of, within, Cells}
 use Rattle.model.specs.Effects.{Action, State, met, current}
 use Rattle.model.specs.Runs.{lowest-unmet}
-use Rattle.model.proofs.Booleans.{and-out, and-in}
+use Rattle.model.proofs.Booleans.{and-out}
 use Rattle.model.proofs.Numbering.{in-array, array-from, array-ends, within-range}
 use Rattle.model.proofs.Unmet.{unmet-first, none-unmet}
 use Rattle.memories.specs.Memories.{number-of}
 use Rattle.memories.specs.Inner.Ranges.{among, FirstStale}
-use Rattle.acts.specs.Inner.Acting.{CellsAt, ArrayAt}
-
-pub among-true : (from to c : ℕ) → from ≤ c → c < to → among from to c ≡ true
-among-true from to c h k = and-in (leb from c) (ltb c to) (le-leb from c h) (lt-ltb c to k)
-
-pub among-out : (from to c : ℕ) → among from to c ≡ true → (from ≤ c) × (c < to)
-among-out from to c e = let p = and-out (leb from c) (ltb c to) e in (leb-true from c (p .0), ltb-true c to (p .1))
+use Rattle.memories.proofs.Cells.{among-true, among-out}
+use Rattle.known.proofs.Sets.{Piece}
+use Rattle.acts.specs.Inner.Acting.{CellsAt, ArrayAt, CellsOf}
 
 -- the cells of a range of an array
 pub range-ends : {arrays : Arrays} {x : Cells} {from to : ℕ} → CellsAt arrays x from to → to ≤ cells arrays
@@ -43,6 +39,24 @@ array-cells {arrays} {a} {from} {to} k c h = go (among from to c) refl
     go false e = ne-eqb (array-of arrays c) a λ q.
         let i : (first-of arrays a ≤ c) × (c < first-of arrays a + length-of arrays a) = rw q at (in-array arrays c h) in
         true≢false (sym (among-true from to c (omega (arith, k .begins, i .0)) (omega (arith, k .ends, i .1))) ∙ e)
+
+-- they are a piece of it, or all of it
+pub array-piece : {arrays : Arrays} {a : ℕ} {whole : Bool} {from to : ℕ} → ArrayAt arrays a from to → Piece arrays a whole from to
+array-piece {arrays} {a} k = record {
+  one = k .one;
+  ends = array-cells-end k;
+  own = λ c h e. eqb-true (array-of arrays c) a (array-cells k c h ∙ e);
+  all = λ w c h e. sym (array-cells k c h) ∙ eq-eqb (array-of arrays c) a e;
+}
+
+pub range-piece : {arrays : Arrays} {x : Cells} {a : ℕ} {whole : Bool} {from to : ℕ} → CellsOf arrays x a whole from to → Piece arrays a whole from to
+unfolding within
+range-piece {arrays} {x} {a} k = record {
+  one = rw (k .array) at (k .range .one);
+  ends = range-ends (k .range);
+  own = λ c h e. eqb-true (array-of arrays c) (x .array) (and-out _ _ (range-cells (k .range) c ∙ e) .0) ∙ k .array;
+  all = λ w. array-piece {whole = true} (k .all w) .all refl;
+}
 
 -- two stamps are equal exactly if their numbers are
 same-number : (x : Stamp) (k : ℕ) → k < 18446744073709551615 → number-of x ≡ k → equals x k ≡ true

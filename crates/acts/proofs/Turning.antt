@@ -18,11 +18,11 @@ use Rattle.memories.specs.Flags.{mask}
 use Rattle.memories.specs.Inner.Ranges.{FirstStale, Changed, Same, of-side, ChangedOn}
 use Rattle.memories.proofs.Cells.{changed-same, same-all}
 use Rattle.known.specs.declared.Known.{Known}
-use Rattle.known.specs.Inner.Knowing.{Knows, known-on, known-both}
+use Rattle.known.specs.Inner.Knowing.{Wrote, Copied}
 use Rattle.acts.specs.declared.Stored.{Stored}
 use Rattle.acts.specs.declared.Acted.{Acted}
 use Rattle.acts.specs.declared.Acted.the-variants.{Done, Unmet}
-use Rattle.acts.specs.Inner.Acting.{Low, CellsAt, ArrayAt, Spans, Holds, BothSet, BothSetAs, FollowsAs, ActsAs, Acts, side-on, flags-on, MovesCells, MovesOn}
+use Rattle.acts.specs.Inner.Acting.{Low, CellsAt, ArrayAt, CellsOf, Spans, Holds, BothSetAs, FollowsAs, ActsAs, Acts, side-on, flags-on, MovesCells, MovesOn}
 use Rattle.acts.proofs.Stale.{none-stale}
 use Rattle.acts.proofs.Acting.{read-done, read-unmet, write-done, copy-follows, need-idle, need-follows, mark-done}
 
@@ -47,11 +47,11 @@ low-seen : (b : Bool) {s : Stored} → Low s → Low (seen b s)
 low-seen true low = record { reads = low .reads; writes = low .writes; moved = low .moved }
 low-seen false low = low
 
-moves-seen : (b : Bool) (from to : ℕ) (s : Stored) (own others latest own′ : List ℕ) (r : Acted) → MovesCells from to s own others latest r own′ → MovesCells from to (seen b s) own others latest (seen-as b r) own′
-moves-seen true from to s own others latest own′ (Done s′) (f, a, e) = (f, a, ap swapped e)
-moves-seen true from to s own others latest own′ (Unmet c) m = m
-moves-seen false from to s own others latest own′ (Done s′) m = m
-moves-seen false from to s own others latest own′ (Unmet c) m = m
+moves-seen : (b : Bool) (a : ℕ) (whole : Bool) (from to : ℕ) (s : Stored) (own others latest own′ : List ℕ) (r : Acted) → MovesCells a whole from to s own others latest r own′ → MovesCells a whole from to (seen b s) own others latest (seen-as b r) own′
+moves-seen true a whole from to s own others latest own′ (Done s′) (f, m, e, k) = (f, m, ap swapped e, record { on-host = k .on-card; on-card = k .on-host })
+moves-seen true a whole from to s own others latest own′ (Unmet c) m = m
+moves-seen false a whole from to s own others latest own′ (Done s′) m = m
+moves-seen false a whole from to s own others latest own′ (Unmet c) m = m
 
 both-seen : (b : Bool) (a : ℕ) (r q : Acted) → BothSetAs r a q → BothSetAs (seen-as b r) a (seen-as b q)
 both-seen true a (Done s) (Done s′) m = record { own = m .others; others = m .own; reads = m .reads; writes = m .writes; moved = m .moved; known = ap turned (m .known) }
@@ -109,22 +109,23 @@ module _ {arrays : Arrays} {s : Stored} {hs cs latest : List ℕ} {σ : State} {
       pub read-unmet-on : (b : Bool) {r : ℕ} → FirstStale (of-side b hs cs) latest from to r → r < to → lowest-unmet arrays (read (side-on b) x) σ ≡ some r
       read-unmet-on b f m = read-unmet (holds-on b) k (low-seen b low) f m
 
-      pub write-done-on : from < 65536 → (b : Bool) {hs′ cs′ latest′ : List ℕ} → ChangedOn b from to (λ c. s .writes + 1) hs cs hs′ cs′ → Changed from to (λ c. s .writes + 1) latest latest′ →
-          ActsAs arrays (write (side-on b) x) σ l hs cs latest (Done (record { flags = s .flags; «other_flags» = s .«other_flags»; reads = s .reads; writes = s .writes + 1; moved = s .moved; known = known-on b from to })) hs′ cs′ latest′
-      write-done-on small true {hs′} {cs′} {latest′} a b = acts-on arrays (write card x) σ l hs cs latest true (Done (record { flags = s .flags; «other_flags» = s .«other_flags»; reads = s .reads; writes = s .writes + 1; moved = s .moved; known = known-on true from to })) hs′ cs′ latest′ (a .others) (write-done (holds-on true) k small (a .own) b)
-      write-done-on small false {hs′} {cs′} {latest′} a b = acts-on arrays (write host x) σ l hs cs latest false (Done (record { flags = s .flags; «other_flags» = s .«other_flags»; reads = s .reads; writes = s .writes + 1; moved = s .moved; known = known-on false from to })) hs′ cs′ latest′ (a .others) (write-done h k small (a .own) b)
+    module _ {x : Cells} {a : ℕ} {whole : Bool} {from to : ℕ} (k : CellsOf arrays x a whole from to) where
+      pub write-done-on : (b : Bool) (n : Known) → Wrote b whole a (s .known) n → {hs′ cs′ latest′ : List ℕ} → ChangedOn b from to (λ c. s .writes + 1) hs cs hs′ cs′ → Changed from to (λ c. s .writes + 1) latest latest′ →
+          ActsAs arrays (write (side-on b) x) σ l hs cs latest (Done (record { flags = s .flags; «other_flags» = s .«other_flags»; reads = s .reads; writes = s .writes + 1; moved = s .moved; known = n })) hs′ cs′ latest′
+      write-done-on true n w {hs′} {cs′} {latest′} c d = acts-on arrays (write card x) σ l hs cs latest true (Done (record { flags = s .flags; «other_flags» = s .«other_flags»; reads = s .reads; writes = s .writes + 1; moved = s .moved; known = n })) hs′ cs′ latest′ (c .others) (write-done (holds-on true) k (turned n) (record { own = w .own; others = w .others }) (c .own) d)
+      write-done-on false n w {hs′} {cs′} {latest′} c d = acts-on arrays (write host x) σ l hs cs latest false (Done (record { flags = s .flags; «other_flags» = s .«other_flags»; reads = s .reads; writes = s .writes + 1; moved = s .moved; known = n })) hs′ cs′ latest′ (c .others) (write-done h k n w (c .own) d)
 
-      pub copy-acts : from < 65536 → (b : Bool) {hs′ cs′ : List ℕ} (r : Acted) → MovesOn b from to s hs cs latest r hs′ cs′ → ActsAs arrays (copy (side-on b) x) σ l hs cs latest r hs′ cs′ latest
-      copy-acts small b {hs′} {cs′} r m = acts-on arrays (copy (side-on b) x) σ l hs cs latest b r hs′ cs′ latest (m .others)
-          (copy-follows (holds-on b) k (low-seen b low) small (seen-as b r) (of-side b hs′ cs′) (moves-seen b from to s (of-side b hs cs) (of-side b cs hs) latest (of-side b hs′ cs′) r (m .moves)))
+      pub copy-acts : (b : Bool) {hs′ cs′ : List ℕ} (r : Acted) → MovesOn b a whole from to s hs cs latest r hs′ cs′ → ActsAs arrays (copy (side-on b) x) σ l hs cs latest r hs′ cs′ latest
+      copy-acts b {hs′} {cs′} r m = acts-on arrays (copy (side-on b) x) σ l hs cs latest b r hs′ cs′ latest (m .others)
+          (copy-follows (holds-on b) k (low-seen b low) (seen-as b r) (of-side b hs′ cs′) (moves-seen b a whole from to s (of-side b hs cs) (of-side b cs hs) latest (of-side b hs′ cs′) r (m .moves)))
 
     module _ {a from to : ℕ} (k : ArrayAt arrays a from to) where
       pub need-idle-on : (b : Bool) → σ .flag (side-on b) a ≡ true → ActsAs arrays (need (side-on b) a) σ l hs cs latest (Done s) hs cs latest
       need-idle-on b e = acts-on arrays (need (side-on b) a) σ l hs cs latest b (Done s) hs cs latest refl (need-idle (holds-on b) k e)
 
-      pub need-acts : from < 65536 → (b : Bool) {hs′ cs′ : List ℕ} (r q : Acted) → σ .flag (side-on b) a ≡ false → MovesOn b from to s hs cs latest r hs′ cs′ → BothSetAs r a q → ActsAs arrays (need (side-on b) a) σ l hs cs latest q hs′ cs′ latest
-      need-acts small b {hs′} {cs′} r q e m n = acts-on arrays (need (side-on b) a) σ l hs cs latest b q hs′ cs′ latest (m .others)
-          (need-follows (holds-on b) k (low-seen b low) small e (seen-as b r) (seen-as b q) (of-side b hs′ cs′) (moves-seen b from to s (of-side b hs cs) (of-side b cs hs) latest (of-side b hs′ cs′) r (m .moves)) (both-seen b a r q n))
+      pub need-acts : (b whole : Bool) {hs′ cs′ : List ℕ} (r q : Acted) → σ .flag (side-on b) a ≡ false → MovesOn b a whole from to s hs cs latest r hs′ cs′ → BothSetAs r a q → ActsAs arrays (need (side-on b) a) σ l hs cs latest q hs′ cs′ latest
+      need-acts b whole {hs′} {cs′} r q e m n = acts-on arrays (need (side-on b) a) σ l hs cs latest b q hs′ cs′ latest (m .others)
+          (need-follows (holds-on b) k whole (low-seen b low) e (seen-as b r) (seen-as b q) (of-side b hs′ cs′) (moves-seen b a whole from to s (of-side b hs cs) (of-side b cs hs) latest (of-side b hs′ cs′) r (m .moves)) (both-seen b a r q n))
 
   -- a mark
   pub mark-card : (b : Bool) (a : ℕ) (s′ : Stored) → b ≡ true →
@@ -140,23 +141,23 @@ module _ {arrays : Arrays} {s : Stored} {hs cs latest : List ℕ} {σ : State} {
   mark-host true a s′ e f g i j m n = absurd (true≢false e)
 
 -- a copy to a side, unmet or done
-pub move-unmet : (b : Bool) (from to : ℕ) (s : Stored) (hs cs latest : List ℕ) {r : ℕ} → FirstStale (of-side (not b) hs cs) latest from to r → r < to → MovesOn b from to s hs cs latest (Unmet (record { 0 = r })) hs cs
-move-unmet true from to s hs cs latest f m = record { moves = (f, m, refl); others = refl }
-move-unmet false from to s hs cs latest f m = record { moves = (f, m, refl); others = refl }
+pub move-unmet : (b : Bool) (a : ℕ) (whole : Bool) (from to : ℕ) (s : Stored) (hs cs latest : List ℕ) {r : ℕ} → FirstStale (of-side (not b) hs cs) latest from to r → r < to → MovesOn b a whole from to s hs cs latest (Unmet (record { 0 = r })) hs cs
+move-unmet true a whole from to s hs cs latest f m = record { moves = (f, m, refl); others = refl }
+move-unmet false a whole from to s hs cs latest f m = record { moves = (f, m, refl); others = refl }
 
-pub move-done : (b : Bool) (from to : ℕ) (s : Stored) (hs cs latest hs′ cs′ : List ℕ) {r : ℕ} → FirstStale (of-side (not b) hs cs) latest from to r → to ≤ r → ChangedOn b from to (λ c. getD (of-side b cs hs) c 0) hs cs hs′ cs′ →
-    MovesOn b from to s hs cs latest (Done (record { flags = s .flags; «other_flags» = s .«other_flags»; reads = s .reads; writes = s .writes; moved = s .moved + (to - from); known = known-both from to })) hs′ cs′
-move-done true from to s hs cs latest hs′ cs′ f m a = record { moves = (none-stale f m, a .own, refl); others = a .others }
-move-done false from to s hs cs latest hs′ cs′ f m a = record { moves = (none-stale f m, a .own, refl); others = a .others }
+pub move-done : (b : Bool) (a : ℕ) (whole : Bool) (from to : ℕ) (s : Stored) (n : Known) (hs cs latest hs′ cs′ : List ℕ) {r : ℕ} → Copied whole a (s .known) n → FirstStale (of-side (not b) hs cs) latest from to r → to ≤ r → ChangedOn b from to (λ c. getD (of-side b cs hs) c 0) hs cs hs′ cs′ →
+    MovesOn b a whole from to s hs cs latest (Done (record { flags = s .flags; «other_flags» = s .«other_flags»; reads = s .reads; writes = s .writes; moved = s .moved + (to - from); known = n })) hs′ cs′
+move-done true a whole from to s n hs cs latest hs′ cs′ k f m c = record { moves = (none-stale f m, c .own, refl, k); others = c .others }
+move-done false a whole from to s n hs cs latest hs′ cs′ k f m c = record { moves = (none-stale f m, c .own, refl, k); others = c .others }
 
 -- a copy, done or unmet, leaves the cells past its own on both sides
-moves-own : (from to : ℕ) (s : Stored) (own others latest : List ℕ) (r : Acted) (own′ : List ℕ) → MovesCells from to s own others latest r own′ → Same to own own′
-moves-own from to s own others latest (Done s′) own′ m = changed-same (m .1)
-moves-own from to s own others latest (Unmet c) own′ m = rw (m .2) (same-all to own)
+moves-own : (a : ℕ) (whole : Bool) (from to : ℕ) (s : Stored) (own others latest : List ℕ) (r : Acted) (own′ : List ℕ) → MovesCells a whole from to s own others latest r own′ → Same to own own′
+moves-own a whole from to s own others latest (Done s′) own′ m = changed-same (m .1)
+moves-own a whole from to s own others latest (Unmet c) own′ m = rw (m .2) (same-all to own)
 
-pub moves-same : (b : Bool) (from to : ℕ) (s : Stored) (hs cs latest : List ℕ) (r : Acted) (hs′ cs′ : List ℕ) → MovesOn b from to s hs cs latest r hs′ cs′ → Same to hs hs′ × Same to cs cs′
-moves-same true from to s hs cs latest r hs′ cs′ m = (rw (m .others) (same-all to hs), moves-own from to s cs hs latest r cs′ (m .moves))
-moves-same false from to s hs cs latest r hs′ cs′ m = (moves-own from to s hs cs latest r hs′ (m .moves), rw (m .others) (same-all to cs))
+pub moves-same : (b : Bool) (a : ℕ) (whole : Bool) (from to : ℕ) (s : Stored) (hs cs latest : List ℕ) (r : Acted) (hs′ cs′ : List ℕ) → MovesOn b a whole from to s hs cs latest r hs′ cs′ → Same to hs hs′ × Same to cs cs′
+moves-same true a whole from to s hs cs latest r hs′ cs′ m = (rw (m .others) (same-all to hs), moves-own a whole from to s cs hs latest r cs′ (m .moves))
+moves-same false a whole from to s hs cs latest r hs′ cs′ m = (moves-own a whole from to s hs cs latest r hs′ (m .moves), rw (m .others) (same-all to cs))
 
 -- a record's side
 side-same : (n : ℕ) (b : Bool) → eqb n 0 ≡ b → side-on (not b) ≡ side-of n
@@ -167,7 +168,7 @@ carry : (P : Side → Type 0) {t u : Side} → t ≡ u → P t → P u
 carry P e p = rw e at p
 
 -- what a record with the fields x, whose cells are `from` up to `to`, does
-module _ (x : Fields) (from to : ℕ) (s : Stored) (hs cs latest : List ℕ) (r : Acted) where
+module _ (x : Fields) (whole : Bool) (from to : ℕ) (s : Stored) (hs cs latest : List ℕ) (r : Acted) where
   abbrev on : Bool
   on = not (eqb (x .side) 0)
 
@@ -176,7 +177,7 @@ module _ (x : Fields) (from to : ℕ) (s : Stored) (hs cs latest : List ℕ) (r 
   named = record { array = x .array; p = x .p; q = x .q }
 
   abbrev As : List ℕ → List ℕ → List ℕ → Action → Type 0
-  As hs′ cs′ latest′ y = (arrays : Arrays) → Spans arrays y from to → Acts arrays y s hs cs latest r hs′ cs′ latest′
+  As hs′ cs′ latest′ y = (arrays : Arrays) → Spans arrays y from to → (whole ≡ true → ArrayAt arrays (x .array) from to) → Acts arrays y s hs cs latest r hs′ cs′ latest′
 
   same : side-on on ≡ side-of (x .side)
   same = side-same (x .side) (eqb (x .side) 0) refl
@@ -186,25 +187,25 @@ module _ (x : Fields) (from to : ℕ) (s : Stored) (hs cs latest : List ℕ) (r 
       As hs cs latest (action-of x)
   here-read e p =
       by-kind x (omega arith, omega arith) (As hs cs latest)
-      (λ _. carry (λ t. As hs cs latest (read t named)) same (λ arrays k. p arrays named k))
+      (λ _. carry (λ t. As hs cs latest (read t named)) same (λ arrays k w. p arrays named k))
       (λ z. absurd (omega arith)) (λ z. absurd (omega arith)) (λ z. absurd (omega arith)) (λ z. absurd (omega arith))
 
   pub here-write : x .kind ≡ 2 → (hs′ cs′ latest′ : List ℕ) →
-      ((arrays : Arrays) (z : Cells) → CellsAt arrays z from to → Acts arrays (write (side-on on) z) s hs cs latest r hs′ cs′ latest′) →
+      ((arrays : Arrays) (z : Cells) → CellsOf arrays z (x .array) whole from to → Acts arrays (write (side-on on) z) s hs cs latest r hs′ cs′ latest′) →
       As hs′ cs′ latest′ (action-of x)
   here-write e hs′ cs′ latest′ p =
       by-kind x (omega arith, omega arith) (As hs′ cs′ latest′) (λ z. absurd (omega arith))
-      (λ _. carry (λ t. As hs′ cs′ latest′ (write t named)) same (λ arrays k. p arrays named k))
+      (λ _. carry (λ t. As hs′ cs′ latest′ (write t named)) same (λ arrays k w. p arrays named (record { range = k; array = refl; all = w })))
       (λ z. absurd (omega arith)) (λ z. absurd (omega arith)) (λ z. absurd (omega arith))
 
   pub here-move : (1 ≤ x .kind) × (x .kind ≤ 5) → (x .kind ≡ 1 → ⊥) → (x .kind ≡ 2 → ⊥) → (x .kind ≡ 5 → ⊥) → (hs′ cs′ : List ℕ) →
-      (eqb (x .kind) 4 ≡ false → (arrays : Arrays) (z : Cells) → CellsAt arrays z from to → Acts arrays (copy (side-on on) z) s hs cs latest r hs′ cs′ latest) →
+      (eqb (x .kind) 4 ≡ false → (arrays : Arrays) (z : Cells) → CellsOf arrays z (x .array) whole from to → Acts arrays (copy (side-on on) z) s hs cs latest r hs′ cs′ latest) →
       (eqb (x .kind) 4 ≡ true → (arrays : Arrays) → ArrayAt arrays (x .array) from to → Acts arrays (need (side-on on) (x .array)) s hs cs latest r hs′ cs′ latest) →
       As hs′ cs′ latest (action-of x)
   here-move b n1 n2 n5 hs′ cs′ m p =
       by-kind x b (As hs′ cs′ latest) (λ z. absurd (n1 z)) (λ z. absurd (n2 z))
-      (λ e. carry (λ t. As hs′ cs′ latest (copy t named)) same (λ arrays k. m (ne-eqb (x .kind) 4 (λ z. omega arith)) arrays named k))
-      (λ e. carry (λ t. As hs′ cs′ latest (need t (x .array))) same (λ arrays k. p (eq-eqb (x .kind) 4 e) arrays k))
+      (λ e. carry (λ t. As hs′ cs′ latest (copy t named)) same (λ arrays k w. m (ne-eqb (x .kind) 4 (λ z. omega arith)) arrays named (record { range = k; array = refl; all = w })))
+      (λ e. carry (λ t. As hs′ cs′ latest (need t (x .array))) same (λ arrays k w. p (eq-eqb (x .kind) 4 e) arrays k))
       (λ z. absurd (n5 z))
 
   pub here-mark : x .kind ≡ 5 →
@@ -213,4 +214,4 @@ module _ (x : Fields) (from to : ℕ) (s : Stored) (hs cs latest : List ℕ) (r 
   here-mark e p =
       by-kind x (omega arith, omega arith) (As hs cs latest)
       (λ z. absurd (omega arith)) (λ z. absurd (omega arith)) (λ z. absurd (omega arith)) (λ z. absurd (omega arith))
-      (λ _. carry (λ t. As hs cs latest (mark t (x .array))) same (λ arrays k. p arrays from to hs cs latest k))
+      (λ _. carry (λ t. As hs cs latest (mark t (x .array))) same (λ arrays k w. p arrays from to hs cs latest k))

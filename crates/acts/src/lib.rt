@@ -3,16 +3,15 @@ ghost use mathlib.Core.Path.{_≡_};
 ghost use mathlib.Core.Bool.{true, false, not};
 ghost use mathlib.Core.List.{List};
 ghost use Prim.Native.Nat.{ℕ, _≤_, _<_};
-ghost use lib.Dec.{eqb};
 ghost use Rattle.model.specs.Sides.{Arrays, Cells};
 ghost use Rattle.model.specs.Effects.{read, write, copy, need, mark};
 ghost use Rattle.format.specs.Plans.{action-of};
 ghost use Rattle.memories.specs.Inner.Ranges.{AllCurrent, FirstStale, Same, of-side};
-ghost use Rattle.known.specs.Inner.Knowing.{Knows};
-ghost use Rattle.acts.specs.Inner.Acting.{Rooms, Low, CellsAt, ArrayAt, Spans, BothSet, BothSetAs, Acts, side-on, flags-on, MovesOn};
+ghost use Rattle.known.specs.Inner.Knowing.{Sure};
+ghost use Rattle.acts.specs.Inner.Acting.{Rooms, Low, CellsAt, ArrayAt, CellsOf, Spans, BothSet, BothSetAs, Acts, side-on, flags-on, MovesOn};
 use known::Known;
-use known::known_both;
-use known::known_on;
+use known::known_copied;
+use known::known_written;
 use known::sure;
 use memories::copy_on;
 use memories::fill;
@@ -63,9 +62,10 @@ fn stale_cell<'a>(
     stale_on(on_card, host, card, latest, from, to)
 }
 
-// A read of the cells `from` up to `to` on a side.
+// A read of the cells `from` up to `to` of an array on a side.
 fn act_read<'a>(
     on_card: bool,
+    array: u8,
     from: usize,
     to: usize,
     s: Stored,
@@ -73,11 +73,11 @@ fn act_read<'a>(
     card: &'a [u64],
     latest: &[u64],
 ) -> Acted
-    requires { ⌜ Low s × Knows (s .known) (now host) (now card) (now latest) × Rooms from to (now host) (now card) (now latest) ⌝ }
+    requires { ⌜ Low s × (array < 32) × Sure (s .known) array from to (now host) (now card) (now latest) × Rooms from to (now host) (now card) (now latest) ⌝ }
     ensures { λ r. ⌜ ((arrays : Arrays) (x : Cells) → CellsAt arrays x from to → Acts arrays (read (side-on «on_card») x) s (now (host .entry)) (now (card .entry)) (now (latest .entry)) r (now (host .entry)) (now (card .entry)) (now (latest .entry))) ⌝ }
 {
     let k = s.known;
-    let known = sure(k, on_card, from, to);
+    let known = sure(k, on_card, array);
     let c = stale_cell(known, on_card, from, to, host, card, latest);
     if c < to {
         return Acted::Unmet(Cell(c as u16));
@@ -92,9 +92,11 @@ fn act_read<'a>(
     })
 }
 
-// A write of the cells `from` up to `to` on a side.
+// A write of the cells `from` up to `to` of an array, or of the whole of it, on a side.
 fn act_write(
     on_card: bool,
+    array: u8,
+    whole: bool,
     from: usize,
     to: usize,
     s: Stored,
@@ -102,8 +104,8 @@ fn act_write(
     card: &mut [u64],
     latest: &mut [u64],
 ) -> Acted
-    requires { ⌜ Low s × Rooms from to (now host) (now card) (now latest) ⌝ }
-    ensures acts { λ r. ⌜ ((arrays : Arrays) (x : Cells) → CellsAt arrays x from to → Acts arrays (write (side-on «on_card») x) s (now (host .entry)) (now (card .entry)) (now (latest .entry)) r (now (host .exit)) (now (card .exit)) (now (latest .exit))) ⌝ }
+    requires { ⌜ Low s × (array < 32) × Rooms from to (now host) (now card) (now latest) ⌝ }
+    ensures acts { λ r. ⌜ ((arrays : Arrays) (x : Cells) → CellsOf arrays x array whole from to → Acts arrays (write (side-on «on_card») x) s (now (host .entry)) (now (card .entry)) (now (latest .entry)) r (now (host .exit)) (now (card .exit)) (now (latest .exit))) ⌝ }
     ensures same { λ _. ⌜ Same to (now (host .entry)) (now (host .exit)) × Same to (now (card .entry)) (now (card .exit)) × Same to (now (latest .entry)) (now (latest .exit)) ⌝ }
 {
     let k = s.writes + 1;
@@ -115,13 +117,15 @@ fn act_write(
         reads: s.reads,
         writes: k,
         moved: s.moved,
-        known: known_on(on_card, from, to),
+        known: known_written(s.known, on_card, whole, array),
     })
 }
 
-// A copy of the cells `from` up to `to` to a side from the other.
+// A copy of the cells `from` up to `to` of an array, or of the whole of it, to a side from the other.
 fn act_copy(
     on_card: bool,
+    array: u8,
+    whole: bool,
     from: usize,
     to: usize,
     s: Stored,
@@ -129,10 +133,10 @@ fn act_copy(
     card: &mut [u64],
     latest: &[u64],
 ) -> Acted
-    requires { ⌜ Low s × Knows (s .known) (now host) (now card) (now latest) × Rooms from to (now host) (now card) (now latest) ⌝ }
-    ensures { λ r. ⌜ MovesOn «on_card» from to s (now (host .entry)) (now (card .entry)) (now (latest .entry)) r (now (host .exit)) (now (card .exit)) ⌝ }
+    requires { ⌜ Low s × (array < 32) × Sure (s .known) array from to (now host) (now card) (now latest) × Rooms from to (now host) (now card) (now latest) ⌝ }
+    ensures { λ r. ⌜ MovesOn «on_card» array whole from to s (now (host .entry)) (now (card .entry)) (now (latest .entry)) r (now (host .exit)) (now (card .exit)) ⌝ }
 {
-    let known = sure(s.known, !on_card, from, to);
+    let known = sure(s.known, !on_card, array);
     let c = stale_cell(known, !on_card, from, to, host, card, latest);
     if c < to {
         return Acted::Unmet(Cell(c as u16));
@@ -144,7 +148,7 @@ fn act_copy(
         reads: s.reads,
         writes: s.writes,
         moved: s.moved + (to - from) as u64,
-        known: known_both(from, to),
+        known: known_copied(s.known, whole, array),
     })
 }
 
@@ -185,12 +189,13 @@ fn side_flags(on_card: bool, s: Stored) -> u32
     s.flags
 }
 
-// A copy of the cells `from` up to `to` to a side from the other, or a need of the array that they are.
+// A copy of the cells `from` up to `to` of an array to a side from the other, or a need of the array that they are.
 // Both go through one call of `act_copy`, which the compiler then puts in place.
 fn act_move(
     needs: bool,
     on_card: bool,
     array: u8,
+    whole: bool,
     from: usize,
     to: usize,
     s: Stored,
@@ -198,15 +203,15 @@ fn act_move(
     card: &mut [u64],
     latest: &[u64],
 ) -> Acted
-    requires { ⌜ Low s × Knows (s .known) (now host) (now card) (now latest) × (array < 32) × Rooms from to (now host) (now card) (now latest) ⌝ }
-    ensures copies { λ r. ⌜ (needs ≡ false → (arrays : Arrays) (x : Cells) → CellsAt arrays x from to → Acts arrays (copy (side-on «on_card») x) s (now (host .entry)) (now (card .entry)) (now (latest .entry)) r (now (host .exit)) (now (card .exit)) (now (latest .entry))) ⌝ }
+    requires { ⌜ Low s × (array < 32) × Sure (s .known) array from to (now host) (now card) (now latest) × Rooms from to (now host) (now card) (now latest) ⌝ }
+    ensures copies { λ r. ⌜ (needs ≡ false → (arrays : Arrays) (x : Cells) → CellsOf arrays x array whole from to → Acts arrays (copy (side-on «on_card») x) s (now (host .entry)) (now (card .entry)) (now (latest .entry)) r (now (host .exit)) (now (card .exit)) (now (latest .entry))) ⌝ }
     ensures needed { λ r. ⌜ (needs ≡ true → (arrays : Arrays) → ArrayAt arrays array from to → Acts arrays (need (side-on «on_card») array) s (now (host .entry)) (now (card .entry)) (now (latest .entry)) r (now (host .exit)) (now (card .exit)) (now (latest .entry))) ⌝ }
     ensures same { λ _. ⌜ Same to (now (host .entry)) (now (host .exit)) × Same to (now (card .entry)) (now (card .exit)) ⌝ }
 {
     if needs & flag_set(side_flags(on_card, s), array) {
         return Acted::Done(s);
     }
-    let r = act_copy(on_card, from, to, s, host, card, latest);
+    let r = act_copy(on_card, array, whole, from, to, s, host, card, latest);
     if needs {
         return with_both(r, array);
     }
@@ -239,10 +244,11 @@ fn act_mark(on_card: bool, array: u8, s: Stored) -> Acted
     })
 }
 
-// A record with the fields x, whose cells are `from` up to `to`. Each kind looks for the side itself: one function for each side, called with the memories
+// A record with the fields x, whose cells are `from` up to `to`, the whole of its array or not. Each kind looks for the side itself: one function for each side, called with the memories
 // exchanged, stood between the compiler and its loops.
 pub fn act(
     x: Fields,
+    whole: bool,
     from: usize,
     to: usize,
     s: Stored,
@@ -250,8 +256,8 @@ pub fn act(
     card: &mut [u64],
     latest: &mut [u64],
 ) -> Acted
-    requires { ⌜ Low s × Knows (s .known) (now host) (now card) (now latest) × (1 ≤ x .kind) × (x .kind ≤ 5) × (x .array < 32) × Rooms from to (now host) (now card) (now latest) ⌝ }
-    ensures follows { λ r. ⌜ ((arrays : Arrays) → Spans arrays (action-of x) from to → Acts arrays (action-of x) s (now (host .entry)) (now (card .entry)) (now (latest .entry)) r (now (host .exit)) (now (card .exit)) (now (latest .exit))) ⌝ }
+    requires { ⌜ Low s × Sure (s .known) (x .array) from to (now host) (now card) (now latest) × (1 ≤ x .kind) × (x .kind ≤ 5) × (x .array < 32) × Rooms from to (now host) (now card) (now latest) ⌝ }
+    ensures follows { λ r. ⌜ ((arrays : Arrays) → Spans arrays (action-of x) from to → (whole ≡ true → ArrayAt arrays (x .array) from to) → Acts arrays (action-of x) s (now (host .entry)) (now (card .entry)) (now (latest .entry)) r (now (host .exit)) (now (card .exit)) (now (latest .exit))) ⌝ }
     ensures host { λ _. ⌜ Same to (now (host .entry)) (now (host .exit)) ⌝ }
     ensures card { λ _. ⌜ Same to (now (card .entry)) (now (card .exit)) ⌝ }
     ensures latest { λ _. ⌜ Same to (now (latest .entry)) (now (latest .exit)) ⌝ }
@@ -260,13 +266,14 @@ pub fn act(
     let on_card = x.side != 0;
     let array = x.array;
     match kind {
-        READ => act_read(on_card, from, to, s, host, card, latest),
-        WRITE => act_write(on_card, from, to, s, host, card, latest),
+        READ => act_read(on_card, array, from, to, s, host, card, latest),
+        WRITE => act_write(on_card, array, whole, from, to, s, host, card, latest),
         MARK => act_mark(on_card, array, s),
         _ => act_move(
             kind == NEED,
             on_card,
             array,
+            whole,
             from,
             to,
             s,

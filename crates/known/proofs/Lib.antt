@@ -1,2 +1,2 @@
--- What is known of a range of cells.
-pub mod Ranges
+-- What is known of arrays.
+pub mod Sets

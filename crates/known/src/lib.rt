@@ -1,52 +1,77 @@
 // What a run knows of its cells, so that it need not compare them again.
 ghost use mathlib.Core.Path.{_≡_};
-ghost use mathlib.Core.Bool.{true};
+ghost use mathlib.Core.Bool.{true, _&&_};
 ghost use mathlib.Core.List.{List};
-ghost use Prim.Native.Nat.{ℕ, _<_};
+ghost use Prim.Native.Nat.{ℕ, _≤_, _<_};
+ghost use lib.Dec.{eqb};
 ghost use Rattle.memories.specs.Inner.Ranges.{AllCurrent, of-side};
-ghost use Rattle.known.specs.Inner.Knowing.{span, known-in, Knows, known-on, known-both};
+ghost use Rattle.known.specs.Inner.Knowing.{known-in, at-start, Sure, Added, Wrote, Copied};
+use memories::flags::all_flags;
+use memories::flags::flag_set;
+use memories::flags::with_flag;
+use memories::flags::without_flag;
 
-// Which cells are known to be current on the host, and which on the card: `from` up to `to` is the number from + 65536 * to. Two numbers and no more: they go
-// through each step of a run with the machine.
+// The arrays all of whose cells are known to be current on the host, and those on the card: bit a is array a. Two numbers and no more: they go through each step
+// of a run with the machine.
 pub struct Known {
     pub host: u32,
     pub card: u32,
 }
 
-// The number of a range.
-fn span(from: usize, to: usize) -> u32
-    requires { ⌜ (from < 65536) × (to < 65536) ⌝ }
-    ensures { λ r. ⌜ r ≡ span from to ⌝ }
+// At the start of a run: every array is current on the host.
+pub fn known_at_start(arrays: u8) -> Known
+    requires { ⌜ arrays ≤ 32 ⌝ }
+    ensures { λ k. ⌜ k ≡ at-start arrays ⌝ }
 {
-    (from as u32) + 65536 * (to as u32)
-}
-
-// After a write of the cells `from` up to `to` on a side: they are current there.
-pub fn known_on(on_card: bool, from: usize, to: usize) -> Known
-    requires { ⌜ (from < 65536) × (to < 65536) ⌝ }
-    ensures { λ k. ⌜ k ≡ known-on «on_card» from to ⌝ }
-{
-    if on_card {
-        return Known {
-            host: 0,
-            card: span(from, to),
-        };
-    }
     Known {
-        host: span(from, to),
+        host: all_flags(arrays),
         card: 0,
     }
 }
 
-// After a copy of them: they are current on both.
-pub fn known_both(from: usize, to: usize) -> Known
-    requires { ⌜ (from < 65536) × (to < 65536) ⌝ }
-    ensures { λ k. ⌜ k ≡ known-both from to ⌝ }
+// Whether the cells `from` up to `to` are all cells of an array, which begins at cell `first` and ends before cell `next`.
+pub fn is_whole(from: usize, to: usize, first: u16, next: u16) -> bool
+    ensures { λ r. ⌜ r ≡ (eqb from first && eqb to next) ⌝ }
 {
-    let both = span(from, to);
+    (from == first as usize) & (to == next as usize)
+}
+
+// An array added to a set, where all its cells have become current.
+fn added(known: u32, whole: bool, array: u8) -> u32
+    requires { ⌜ array < 32 ⌝ }
+    ensures { λ r. ⌜ Added whole array known r ⌝ }
+{
+    if whole {
+        return with_flag(known, array);
+    }
+    known
+}
+
+// After a write of cells of an array, or of the whole of it, on a side: those on the other side are stale.
+pub fn known_written(k: Known, on_card: bool, whole: bool, array: u8) -> Known
+    requires { ⌜ array < 32 ⌝ }
+    ensures { λ r. ⌜ Wrote «on_card» whole array k r ⌝ }
+{
+    if on_card {
+        return Known {
+            host: without_flag(k.host, array),
+            card: added(k.card, whole, array),
+        };
+    }
     Known {
-        host: both,
-        card: both,
+        host: added(k.host, whole, array),
+        card: without_flag(k.card, array),
+    }
+}
+
+// After a copy of them: they are current on both.
+pub fn known_copied(k: Known, whole: bool, array: u8) -> Known
+    requires { ⌜ array < 32 ⌝ }
+    ensures { λ r. ⌜ Copied whole array k r ⌝ }
+{
+    Known {
+        host: added(k.host, whole, array),
+        card: added(k.card, whole, array),
     }
 }
 
@@ -60,10 +85,10 @@ fn on_side(k: Known, on_card: bool) -> u32
     k.host
 }
 
-// Whether the cells `from` up to `to` are known to be current on a side.
-pub fn sure(k: Known, on_card: bool, from: usize, to: usize) -> bool
-    ensures { λ r. ⌜ ((host card latest : List ℕ) → Knows k host card latest → r ≡ true → AllCurrent (of-side «on_card» host card) latest from to) ⌝ }
+// Whether the cells of an array are known to be current on a side.
+pub fn sure(k: Known, on_card: bool, array: u8) -> bool
+    requires { ⌜ array < 32 ⌝ }
+    ensures { λ r. ⌜ ((from to : ℕ) (host card latest : List ℕ) → Sure k array from to host card latest → r ≡ true → AllCurrent (of-side «on_card» host card) latest from to) ⌝ }
 {
-    let known = on_side(k, on_card);
-    ((known % 65536) as usize <= from) & (to <= (known / 65536) as usize)
+    flag_set(on_side(k, on_card), array)
 }

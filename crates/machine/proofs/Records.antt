@@ -1,16 +1,18 @@
 -- A record of kind 1 to 5 of an opened plain plan, as the runner meets it: its cells, the room for them, and the room for what it counts.
-use mathlib.Core.Path.{_≡_, _∙_}
-use mathlib.Core.Bool.{Bool, true, false, cond, not}
+use mathlib.Core.Path.{_≡_, refl, sym, _∙_}
+use mathlib.Core.Bool.{Bool, true, false, cond, not, _&&_, true≢false}
 use mathlib.Core.List.{List, [], _∷_}
 use Prim.Native.Nat.{ℕ, suc, _+_, _≤_, _<_}
 use native.Mathlib.Decide.{decLt}
 use native.Mathlib.Numerals.{add-one}
 use native.Mathlib.Omega.{arith}
+use lib.Dec.{eqb}
 use lib.ListN.{length}
-use borrow.Author.Tests.{le-leb, lt-leb}
+use borrow.Author.Tests.{le-leb, lt-leb, eqb-true}
 use Rattle.model.specs.Sides.{Arrays, cells, length-of, first-of}
 use Rattle.model.specs.Effects.{Action, read, write, copy, need, mark, State}
 use Rattle.model.specs.Runs.{Event, tally}
+use Rattle.model.proofs.Booleans.{and-out}
 use Rattle.model.proofs.Numbering.{array-ends}
 use Rattle.model.proofs.Runs.{event}
 use Rattle.reading.specs.declared.Fields.{Fields}
@@ -21,7 +23,9 @@ use Rattle.format.specs.Inner.Walks.{Plain}
 use Rattle.reading.proofs.Tables.{arrays-counted, array-length, next-cell}
 use Rattle.format.proofs.Walking.{opened-facts}
 use Rattle.format.proofs.Acts.{cells-fit, array-fits, by-kind}
+use Rattle.known.proofs.Sets.{Piece}
 use Rattle.acts.specs.Inner.Acting.{CellsAt, ArrayAt, Spans}
+use Rattle.acts.proofs.Stale.{array-piece, range-piece}
 use Rattle.reading.specs.Inner.Cells.{from-of, to-of}
 
 module _ (f : List ℕ) (bodies : ℕ) (w : Plain f bodies) (x : Fields) (fit : fields-fit f x ≡ true) (kind : (1 ≤ x .kind) × (x .kind ≤ 5)) where
@@ -51,7 +55,7 @@ module _ (f : List ℕ) (bodies : ℕ) (w : Plain f bodies) (x : Fields) (fit : 
       fits = rw (array-length f (x .array) (on-array .1)) (cells-fit f x fit (kind .0) k .2)
 
       cells-at : CellsAt arrays (record { array = x .array; p = x .p; q = x .q }) (from-of x first) (to-of x first next)
-      cells-at = record { begins = from-is; ends = to-is; fits = fits }
+      cells-at = record { one = rw (arrays-counted f) (on-array .1); begins = from-is; ends = to-is; fits = fits }
 
     module _ (k : 3 < x .kind) where
       array-at : ArrayAt arrays (x .array) (from-of x first) (to-of x first next)
@@ -60,6 +64,19 @@ module _ (f : List ℕ) (bodies : ℕ) (w : Plain f bodies) (x : Fields) (fit : 
     pub spans : Spans arrays (action-of x) (from-of x first) (to-of x first next)
     spans = by-kind x kind (λ y. Spans arrays y (from-of x first) (to-of x first next))
         (λ z. cells-at (omega arith)) (λ z. cells-at (omega arith)) (λ z. cells-at (omega arith)) (λ z. array-at (omega arith)) (λ z. array-at (omega arith))
+
+    -- they are cells of its array
+    pub piece : Piece arrays (x .array) false (from-of x first) (to-of x first next)
+    piece = elim (decLt 3 (x .kind)) [
+      | yes h ↦ array-piece (array-at h)
+      | no h ↦ range-piece (record { range = cells-at (omega arith); array = refl; all = λ z. absurd (true≢false (sym z)) })
+    ]
+
+    -- cells from the array's first to its last are the whole of it
+    pub whole-at : (from to : ℕ) → (eqb from first && eqb to next) ≡ true → ArrayAt arrays (x .array) from to
+    whole-at from to z =
+        let p = and-out (eqb from first) (eqb to next) z in
+        record { one = rw (arrays-counted f) (on-array .1); begins = eqb-true from first (p .0) ∙ e; ends = eqb-true to next (p .1) ∙ next-is }
 
     -- the cells are of the plan
     pub inside : (from-of x first ≤ to-of x first next) × (to-of x first next ≤ cells arrays) × (to-of x first next ≤ 4096)

@@ -34,12 +34,13 @@ use Rattle.acts.specs.declared.Acted.{Acted}
 use Rattle.acts.specs.declared.Acted.the-variants.{Done, Unmet}
 use Rattle.standing.specs.Choices.{choices-of}
 use Rattle.memories.specs.Inner.Ranges.{Room, Same}
-use Rattle.known.specs.Inner.Knowing.{Knows}
-use Rattle.acts.specs.Inner.Acting.{Rooms, Low, Spans, Holds, Acts}
+use Rattle.known.specs.Inner.Knowing.{Sure}
+use Rattle.known.proofs.Sets.{knows-sure}
+use Rattle.acts.specs.Inner.Acting.{Rooms, Low, ArrayAt, Spans, Holds, Acts}
 use Rattle.places.specs.Inner.Places.{Spot, skipped, into, settled, chosen, rest-of, left-of, weight, Part, Placed}
 use Rattle.standing.specs.Inner.Standing.{Runner, stored-with, tally-with, past-record, ended-with, moved-to, after-act, tally-after, tested, measure, next-record, said-of, Stands, StepsAs, Steps, Stood, Reaches}
 use Rattle.reading.specs.Inner.Cells.{from-of, to-of}
-use Rattle.machine.proofs.Records.{few-arrays, spans, inside, few-counted, few-moved}
+use Rattle.machine.proofs.Records.{few-arrays, spans, piece, whole-at, inside, few-counted, few-moved}
 use Rattle.places.proofs.Places.{left-into, starts-into, placed-into, into-used, settling, light}
 
 -- the step of a configuration whose parts are known
@@ -86,15 +87,16 @@ module _ (f : List ℕ) (bodies : ℕ) (w : Plain f bodies) (d r end : ℕ) (par
       let t : ltb 15 d ≡ false = rw (in-range 6 7 (x .kind) k (kind-is .1), eq-eqb (kind-of f) 2 (w .kind)) at s in
       omega (arith, ltb-false 15 d t)
 
--- what the runner knows of a record of kind 1 to 5, whose cells are `from` up to `to`, before it acts
-pub record Able (arrays : Arrays) (x : Fields) (from to : ℕ) (s : Stored) (at : ℕ) (own others latest : List ℕ) : Type 0 where
+-- what the runner knows of a record of kind 1 to 5, whose cells are `from` up to `to` and whose array is `first` up to `next`, before it acts
+pub record Able (arrays : Arrays) (x : Fields) (first next from to : ℕ) (s : Stored) (at : ℕ) (own others latest : List ℕ) : Type 0 where
   pub kind : (1 ≤ x .kind) × (x .kind ≤ 5)
   pub array : x .array < 32
   pub low : Low s
-  pub knows : Knows (s .known) own others latest
+  pub sure : Sure (s .known) (x .array) from to own others latest
   pub rooms : Rooms from to own others latest
   pub inside : to ≤ cells arrays
   pub spans : Spans arrays (action-of x) from to
+  pub whole : (eqb from first && eqb to next) ≡ true → ArrayAt arrays (x .array) from to
   pub few : at < 1024
 
 -- the laws of a step from where the machine stands
@@ -336,7 +338,7 @@ module _ (f choices : List ℕ) (m : Runner) (own others latest : List ℕ) (t :
       fit : fields-fit f x ≡ true
       fit = record-fits f (m .bodies) (w .plain) (p .depth) (p .at) (p .end) part h x e
 
-      pub able : Able arrays x from to (stored-with m t) (p .at) own others latest
+      pub able : Able arrays x first next from to (stored-with m t) (p .at) own others latest
       able =
           let i = inside f (m .bodies) (w .plain) x fit kinds first next a b in
           let n = few-counted arrays (k .history) in
@@ -344,7 +346,7 @@ module _ (f choices : List ℕ) (m : Runner) (own others latest : List ℕ) (t :
           record {
             kind = kinds;
             array = few-arrays f (m .bodies) (w .plain) x fit kinds;
-            knows = w .holds .knows;
+            sure = knows-sure (piece f (m .bodies) (w .plain) x fit kinds first next a b) (w .holds .knows);
             low = record {
               reads = omega (arith, w .holds .reads, n .0, w .few, w .used, w .many);
               writes = omega (arith, w .holds .writes, n .1, w .few, w .used, w .many);
@@ -353,6 +355,7 @@ module _ (f choices : List ℕ) (m : Runner) (own others latest : List ℕ) (t :
             rooms = record { few = i .2; in-own = room own (w .holds .own-room); in-others = room others (w .holds .others-room); in-latest = room latest (w .holds .latest-room) };
             inside = i .1;
             spans = spans f (m .bodies) (w .plain) x fit kinds first next a b;
+            whole = whole-at f (m .bodies) (w .plain) x fit kinds first next a b from to;
             few = omega (arith, part .inside, few-records);
           }
 

@@ -8,6 +8,7 @@ ghost use Rattle.reading.specs.Bytes.{arrays-of};
 ghost use Rattle.memories.specs.Inner.Ranges.{Same};
 ghost use Rattle.standing.specs.Inner.Standing.{runner, measure, Stood, Steps};
 use acts::act;
+use known::is_whole;
 use model::Tally;
 use model::Verdict;
 use reading::first_cell;
@@ -52,7 +53,8 @@ pub fn step(
     let next = room[a + 1];
     let from = first_cell(x, first);
     let to = next_cell(x, first, next);
-    let r = act(x, from, to, acted_on(m, t), host, card, latest);
+    let whole = is_whole(from, to, first, next);
+    let r = act(x, whole, from, to, acted_on(m, t), host, card, latest);
     Stepped {
         machine: after(m, r, room),
         tally: tally_after(t, r),

@@ -6,12 +6,19 @@ use Prim.Native.Nat.{ℕ, suc, _+_, _≤_, _<_}
 use native.Nat.{ℕᴺ-discrete}
 use native.Mathlib.Decide.{decLt}
 use native.Mathlib.Omega.{arith}
-use lib.Dec.{leb}
+use lib.Dec.{leb, ltb}
 use lib.ListN.{length, getD, set, length-set}
 use lib.Seq.{getD-set-same, getD-set-other}
-use borrow.Author.Tests.{lt-ltb, le-ltb, le-leb, lt-leb}
-use Rattle.model.proofs.Booleans.{and-out}
+use borrow.Author.Tests.{lt-ltb, le-ltb, le-leb, lt-leb, ltb-true, leb-true}
+use Rattle.model.proofs.Booleans.{and-in, and-out}
 use Rattle.memories.specs.Inner.Ranges.{Room, among, AllCurrent, Changed, Same, of-side, ChangedOn}
+
+-- cell c is one of the cells `from` up to `to`
+pub among-true : (from to c : ℕ) → from ≤ c → c < to → among from to c ≡ true
+among-true from to c h k = and-in (leb from c) (ltb c to) (le-leb from c h) (lt-ltb c to k)
+
+pub among-out : (from to c : ℕ) → among from to c ≡ true → (from ≤ c) × (c < to)
+among-out from to c e = let p = and-out (leb from c) (ltb c to) e in (leb-true from c (p .0), ltb-true c to (p .1))
 
 -- the cells `from` up to c are none at first, and c is the next
 among-none : (from c : ℕ) → among from from c ≡ false

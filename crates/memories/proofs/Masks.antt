@@ -33,6 +33,11 @@ unfolding mask
 mask-same zero x y h = refl
 mask-same (suc n) x y h = rw (h n (omega arith), mask-same n x y (λ a l. h a (omega arith)))
 
+-- setting a flag, in other words
+pub set-or : (b f : Bool) → cond b true f ≡ (b || f)
+set-or true f = refl
+set-or false f = refl
+
 -- no flag, and all flags
 pub none : (n : ℕ) → mask n (λ a. false) ≡ 0
 unfolding mask

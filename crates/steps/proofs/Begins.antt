@@ -25,6 +25,7 @@ use Rattle.places.specs.Inner.Places.{spot, started, rest-of, left-of, weight-o
 use Rattle.standing.specs.Inner.Standing.{runner, Reaches}
 use Rattle.steps.specs.Inner.Beginning.{Fronted, first-machine, Ready}
 use Rattle.memories.proofs.Masks.{none}
+use Rattle.known.proofs.Sets.{start-known}
 
 -- the start
 module _ (f choices : List ℕ) (facts : Facts f) (kind : kind-of f ≡ 2) where
@@ -72,7 +73,7 @@ module _ (f choices : List ℕ) (facts : Facts f) (kind : kind-of f ≡ 2) where
           moved = refl;
           counted = refl;
           past = past {plan = plan-of f} {cs = choices-of choices} here;
-          knows = record { on-host = λ c i j. absurd (omega arith); on-card = λ c i j. absurd (omega arith) };
+          knows = rw (arrays-counted f) at (start-known (arrays-of f) own others latest (λ c i. filled 0 h own on-host c i ∙ sym (filled 0 l latest on-latest c i)));
         };
         few = omega (arith, facts .bounds .records);
         few-moved = omega arith;

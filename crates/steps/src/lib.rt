@@ -9,7 +9,7 @@ ghost use Rattle.memories.specs.Inner.Ranges.{Room, Changed, Same};
 ghost use Rattle.standing.specs.Inner.Standing.{runner, Reaches};
 ghost use Rattle.steps.specs.Inner.Beginning.{Fronted, first-machine, ReachesEnd, Ready};
 use contents::Opened;
-use known::known_on;
+use known::known_at_start;
 use machine::step_lent;
 use memories::fill;
 use memories::flags::all_flags;
@@ -62,7 +62,7 @@ fn first_machine(records: u16, arrays: u8, bodies: usize) -> Machine
         last: Record(0),
         verdict: Verdict::Accepted,
         running: true,
-        known: known_on(false, 0, 0),
+        known: known_at_start(arrays),
     }
 }
 

@@ -11,10 +11,10 @@ sure-requires : tie.Need-sure-requires
 sure-requires c κs = search needs
 
 stale-cell-requires : tie.Need-stale-cell-requires
-stale-cell-requires c κs = let p = c .before .before .before .before .before .before .pre in (c .before .before .sure .ensures _ _ _ (p .1), p .2)
+stale-cell-requires c κs = let p = c .before .before .before .before .before .before .pre in (c .before .before .sure .ensures _ _ _ _ _ (p .2), p .3)
 
-cast-t15 : tie.Need-cast-t15
-cast-t15 c = search needs
+cast-t17 : tie.Need-cast-t17
+cast-t17 c = search needs
 
 same-length : tie.Need-same-length
 same-length c = search needs
@@ -25,19 +25,19 @@ same-length-2 c = search needs
 returns : tie.Need-returns
 returns c =
     let a = c .before .before .before .before .before .before .before .before .args in
-    move-unmet (a .on-card) (a .from) (a .to) (a .s) (a .host .now) (a .card .now) (a .latest .now) (c .before .stale-cell .ensures) (c .if1 .taken)
+    move-unmet (a .on-card) (a .array) (a .whole) (a .from) (a .to) (a .s) (a .host .now) (a .card .now) (a .latest .now) (c .before .stale-cell .ensures) (c .if1 .taken)
 
 copy-on-requires : tie.Need-copy-on-requires
 copy-on-requires c κs = search needs
 
-sub-t22 : tie.Need-sub-t22
-sub-t22 c = search needs
+sub-t24 : tie.Need-sub-t24
+sub-t24 c = search needs
 
-add-t24 : tie.Need-add-t24
-add-t24 c = search needs
+add-t26 : tie.Need-add-t26
+add-t26 c = search needs
 
-known-both-requires : tie.Need-known-both-requires
-known-both-requires c κs = search needs
+known-copied-requires : tie.Need-known-copied-requires
+known-copied-requires c κs = search needs
 
 same-length-3 : tie.Need-same-length-3
 same-length-3 c = search needs
@@ -48,7 +48,7 @@ same-length-4 c = search needs
 returns-2 : tie.Need-returns-2
 returns-2 c =
     let a = c .before .before .before .before .before .before .before .before .before .before .before .before .before .before .before .before .before .args in
-    rw (c .known-both .ensures) (move-done (a .on-card) (a .from) (a .to) (a .s) (a .host .now) (a .card .now) (a .latest .now) _ _ (c .before .before .before .before .before .before .before .before .before .before .stale-cell .ensures) (omega arith) (c .before .before .before .before .before .before .copy-on .ensures))
+    move-done (a .on-card) (a .array) (a .whole) (a .from) (a .to) (a .s) _ (a .host .now) (a .card .now) (a .latest .now) _ _ (c .known-copied .ensures) (c .before .before .before .before .before .before .before .before .before .before .stale-cell .ensures) (omega arith) (c .before .before .before .before .before .before .copy-on .ensures)
 
 pub act-copy-spec : {M : Type 1} → statement M
 act-copy-spec =
@@ -56,14 +56,14 @@ act-copy-spec =
     (tie.spec
     sure-requires
     stale-cell-requires
-    cast-t15
+    cast-t17
     same-length
     same-length-2
     returns
     copy-on-requires
-    sub-t22
-    add-t24
-    known-both-requires
+    sub-t24
+    add-t26
+    known-copied-requires
     same-length-3
     same-length-4
     returns-2)

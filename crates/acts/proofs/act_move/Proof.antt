@@ -1,8 +1,6 @@
 -- `act_move` copies; as a need it follows the model: nothing where the flag is set, else a copy and both flags, or unmet.
-use Prim.Native.Nat.{_<_}
 use mathlib.Core.Path.{sym, _∙_}
 use mathlib.Core.Bool.{true≢false}
-use native.Mathlib.Omega.{arith}
 use Rattle.model.proofs.Booleans.{and-out}
 use Rattle.memories.proofs.Cells.{same-all}
 use Rattle.acts.proofs.Turning.{flags-held, copy-acts, need-idle-on, need-acts, moves-same}
@@ -43,12 +41,11 @@ same-length-2 c = search needs
 returns-2 : tie.Need-returns-2
 returns-2 c =
     let a = c .before .before .before .before .before .before .before .before .before .before .before .before .before .before .before in
-    let small : a .args .from < 65536 = omega (arith, a .pre .3 .few, a .pre .3 .in-own .order) in
     let m = c .before .before .before .before .before .before .act-copy in (
       λ n. absurd (true≢false (sym (c .before .if2 .taken) ∙ n)),
       (
-        λ y arrays k σ l h. need-acts h (a .pre .0) k small (a .args .on-card) (m .result) (c .with-both .result) (sym (c .before .before .before .before .before .before .before .before .before .before .flag-set .ensures _ _ (k .one) (c .before .before .before .before .before .before .before .before .before .before .before .side-flags .ensures ∙ flags-held h (a .args .on-card))) ∙ rw y at (c .before .before .before .before .before .before .before .before .before .if1 .left)) (m .ensures) (c .with-both .ensures),
-        moves-same (a .args .on-card) _ _ _ _ _ _ (m .result) _ _ (m .ensures),
+        λ y arrays k σ l h. need-acts h (a .pre .0) k (a .args .on-card) (a .args .whole) (m .result) (c .with-both .result) (sym (c .before .before .before .before .before .before .before .before .before .before .flag-set .ensures _ _ (k .one) (c .before .before .before .before .before .before .before .before .before .before .before .side-flags .ensures ∙ flags-held h (a .args .on-card))) ∙ rw y at (c .before .before .before .before .before .before .before .before .before .if1 .left)) (m .ensures) (c .with-both .ensures),
+        moves-same (a .args .on-card) _ _ _ _ _ _ _ _ (m .result) _ _ (m .ensures),
       ),
     )
 
@@ -61,9 +58,8 @@ same-length-4 c = search needs
 returns-3 : tie.Need-returns-3
 returns-3 c =
     let a = c .before .before .before .before .before .before .before .before .before .before .before .before .before .before in
-    let small : a .args .from < 65536 = omega (arith, a .pre .3 .few, a .pre .3 .in-own .order) in
     let m = c .before .before .before .before .before .act-copy in
-    (λ n arrays x k σ l h. copy-acts h (a .pre .0) k small (a .args .on-card) (m .result) (m .ensures), (λ y. absurd (true≢false (sym y ∙ c .if2 .left)), moves-same (a .args .on-card) _ _ _ _ _ _ (m .result) _ _ (m .ensures)))
+    (λ n arrays x k σ l h. copy-acts h (a .pre .0) k (a .args .on-card) (m .result) (m .ensures), (λ y. absurd (true≢false (sym y ∙ c .if2 .left)), moves-same (a .args .on-card) _ _ _ _ _ _ _ _ (m .result) _ _ (m .ensures)))
 
 pub act-move-spec : {M : Type 1} → statement M
 act-move-spec =

@@ -1,5 +1,4 @@
 -- `act_write` follows the model: the next stamp stands in its cells on its side and in latest.
-use native.Mathlib.Omega.{arith}
 use Rattle.memories.proofs.Cells.{changed-same, changed-on-same}
 use Rattle.acts.proofs.Turning.{write-done-on}
 use borrow.Author.Needs.{needs}
@@ -17,8 +16,8 @@ fill-on-requires c κs = search needs
 fill-requires : tie.Need-fill-requires
 fill-requires c κs = search needs
 
-known-on-requires : tie.Need-known-on-requires
-known-on-requires c κs = search needs
+known-written-requires : tie.Need-known-written-requires
+known-written-requires c κs = search needs
 
 same-length : tie.Need-same-length
 same-length c = search needs
@@ -35,7 +34,7 @@ returns c =
     let f = c .before .before .before .before .before .before .before .before .before .fill-on .ensures in
     let g = c .before .before .before .fill .ensures in
     let p = changed-on-same (a .args .on-card) f in
-    (λ arrays x k σ l h. rw (c .known-on .ensures) (write-done-on h (a .pre .0) k (omega (arith, a .pre .1 .few, a .pre .1 .in-own .order)) (a .args .on-card) f g), (p .0, p .1, changed-same g))
+    (λ arrays x k σ l h. write-done-on h (a .pre .0) k (a .args .on-card) _ (c .known-written .ensures) f g, (p .0, p .1, changed-same g))
 
 pub act-write-spec : {M : Type 1} → statement M
 act-write-spec =
@@ -44,7 +43,7 @@ act-write-spec =
     add-k
     fill-on-requires
     fill-requires
-    known-on-requires
+    known-written-requires
     same-length
     same-length-2
     same-length-3

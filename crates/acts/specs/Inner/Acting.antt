@@ -17,7 +17,7 @@ use Rattle.acts.specs.declared.Acted.the-variants.{Done, Unmet}
 use Rattle.memories.specs.Memories.{number-of}
 use Rattle.memories.specs.Flags.{mask}
 use Rattle.memories.specs.Inner.Ranges.{Room, FirstStale, Changed, of-side}
-use Rattle.known.specs.Inner.Knowing.{Knows, known-both}
+use Rattle.known.specs.Inner.Knowing.{Knows, Copied}
 
 -- the cells `from` up to `to` lie inside three memories, and they are no more than a plan has
 pub record Rooms (from to : ℕ) (own others latest : List ℕ) : Type 0 where
@@ -34,6 +34,7 @@ pub record Low (s : Stored) : Type 0 where
 
 -- the cells of a range are those from `from` up to `to`
 pub record CellsAt (arrays : Arrays) (x : Cells) (from to : ℕ) : Type 0 where
+  pub one : x .array < length arrays
   pub begins : from ≡ first-of arrays (x .array) + x .p
   pub ends : to ≡ first-of arrays (x .array) + x .q
   pub fits : x .q ≤ length-of arrays (x .array)
@@ -43,6 +44,12 @@ pub record ArrayAt (arrays : Arrays) (a from to : ℕ) : Type 0 where
   pub one : a < length arrays
   pub begins : from ≡ first-of arrays a
   pub ends : to ≡ first-of arrays a + length-of arrays a
+
+-- where those of a range of array a are the whole of it, they are those of the array
+pub record CellsOf (arrays : Arrays) (x : Cells) (a : ℕ) (whole : Bool) (from to : ℕ) : Type 0 where
+  pub range : CellsAt arrays x from to
+  pub array : x .array ≡ a
+  pub all : whole ≡ true → ArrayAt arrays a from to
 
 -- the cells of a record are those from `from` up to `to`
 abbrev pub Spans : Arrays → Action → ℕ → ℕ → Type 0
@@ -67,7 +74,7 @@ pub record Holds (arrays : Arrays) (t : Side) (s : Stored) (own others latest : 
   pub moved : s .moved ≡ tally arrays l .moved
   pub counted : s .writes ≡ σ .writes
   pub past : Past σ
-  pub knows : Knows (s .known) own others latest
+  pub knows : Knows arrays (s .known) own others latest
 
 -- r is s with the flag of array a set on both sides
 pub record BothSet (s : Stored) (a : ℕ) (r : Stored) : Type 0 where
@@ -111,15 +118,16 @@ side-on on-card = cond on-card card host
 abbrev pub flags-on : Bool → Stored → ℕ
 flags-on on-card s = cond on-card (s .«other_flags») (s .flags)
 
--- the cells `from` up to `to` are copied from the other side, where all of them are current; or the first that is stale there, and nothing has changed
-abbrev pub MovesCells : ℕ → ℕ → Stored → List ℕ → List ℕ → List ℕ → Acted → List ℕ → Type 0
-MovesCells from to s own others latest (Done s′) own′ =
+-- the cells `from` up to `to` of array a, or the whole of it, are copied from the other side, where all of them are current; or the first that is stale there, and nothing has changed
+abbrev pub MovesCells : ℕ → Bool → ℕ → ℕ → Stored → List ℕ → List ℕ → List ℕ → Acted → List ℕ → Type 0
+MovesCells a whole from to s own others latest (Done s′) own′ =
     FirstStale others latest from to to
     × Changed from to (λ c. getD others c 0) own own′
-    × (s′ ≡ record { flags = s .flags; «other_flags» = s .«other_flags»; reads = s .reads; writes = s .writes; moved = s .moved + (to - from); known = known-both from to })
-MovesCells from to s own others latest (Unmet c) own′ = FirstStale others latest from to (c .0) × (c .0 < to) × (own′ ≡ own)
+    × (s′ ≡ record { flags = s .flags; «other_flags» = s .«other_flags»; reads = s .reads; writes = s .writes; moved = s .moved + (to - from); known = s′ .known })
+    × Copied whole a (s .known) (s′ .known)
+MovesCells a whole from to s own others latest (Unmet c) own′ = FirstStale others latest from to (c .0) × (c .0 < to) × (own′ ≡ own)
 
 -- to one side, and the other side is as it was
-pub record MovesOn (on-card : Bool) (from to : ℕ) (s : Stored) (host card latest : List ℕ) (r : Acted) (host′ card′ : List ℕ) : Type 0 where
-  pub moves : MovesCells from to s (of-side on-card host card) (of-side on-card card host) latest r (of-side on-card host′ card′)
+pub record MovesOn (on-card : Bool) (a : ℕ) (whole : Bool) (from to : ℕ) (s : Stored) (host card latest : List ℕ) (r : Acted) (host′ card′ : List ℕ) : Type 0 where
+  pub moves : MovesCells a whole from to s (of-side on-card host card) (of-side on-card card host) latest r (of-side on-card host′ card′)
   pub others : of-side on-card card′ host′ ≡ of-side on-card card host

@@ -1,31 +1,61 @@
 -- No promise of an entry point rests on this text: what a run knows of its cells.
-use Prim.Native.Nat.{ℕ, _+_, _*_, _/_, _%_}
-use mathlib.Core.Bool.{Bool, cond}
+use Prim.Native.Nat.{ℕ, _<_}
+use mathlib.Core.Path.{_≡_}
+use mathlib.Core.Bool.{Bool, true, false, not, cond, _&&_, _||_}
 use mathlib.Core.List.{List}
+use lib.Dec.{eqb}
+use lib.ListN.{length, getD}
+use Rattle.model.specs.Sides.{Arrays, cells, array-of}
+use Rattle.memories.specs.Flags.{mask}
 use Rattle.memories.specs.Inner.Ranges.{AllCurrent}
 use Rattle.known.specs.declared.Known.{Known}
-
--- the cells `from` up to `to` as one number
-abbrev pub span : ℕ → ℕ → ℕ
-span from to = from + 65536 * to
-
--- the cells that a number stands for are current
-abbrev pub CurrentIn : List ℕ → List ℕ → ℕ → Type 0
-CurrentIn copies latest n = AllCurrent copies latest (n % 65536) (n / 65536)
 
 -- what is known on a side
 abbrev pub known-in : Bool → Known → ℕ
 known-in on-card k = cond on-card (k .card) (k .host)
 
+-- at the start: every array on the host, none on the card
+abbrev pub at-start : ℕ → Known
+at-start arrays = record { host = mask arrays (λ a. true); card = 0 }
+
+-- the cells of the arrays in a set are current
+pub record Sound (arrays : Arrays) (known : ℕ) (copies latest : List ℕ) : Type 0 where
+  pub these : ℕ → Bool
+  pub masked : known ≡ mask (length arrays) these
+  pub current : (c : ℕ) → c < cells arrays → these (array-of arrays c) ≡ true → getD copies c 0 ≡ getD latest c 0
+
 -- what is known holds of the memories
-pub record Knows (k : Known) (host card latest : List ℕ) : Type 0 where
-  pub on-host : CurrentIn host latest (k .host)
-  pub on-card : CurrentIn card latest (k .card)
+pub record Knows (arrays : Arrays) (k : Known) (host card latest : List ℕ) : Type 0 where
+  pub on-host : Sound arrays (k .host) host latest
+  pub on-card : Sound arrays (k .card) card latest
 
--- the cells `from` up to `to` are current on a side
-abbrev pub known-on : Bool → ℕ → ℕ → Known
-known-on on-card from to = record { host = cond on-card 0 (span from to); card = cond on-card (span from to) 0 }
+-- if array a is in a set, the cells `from` up to `to` are current
+pub record Tells (known a from to : ℕ) (copies latest : List ℕ) : Type 0 where
+  pub many : ℕ
+  pub these : ℕ → Bool
+  pub low : a < many
+  pub masked : known ≡ mask many these
+  pub current : these a ≡ true → AllCurrent copies latest from to
 
--- on both
-abbrev pub known-both : ℕ → ℕ → Known
-known-both from to = record { host = span from to; card = span from to }
+-- the same on both sides
+pub record Sure (k : Known) (a from to : ℕ) (host card latest : List ℕ) : Type 0 where
+  pub on-host : Tells (k .host) a from to host latest
+  pub on-card : Tells (k .card) a from to card latest
+
+-- array a is added to a set, where the whole of it is meant
+abbrev pub Added : Bool → ℕ → ℕ → ℕ → Type 0
+Added whole a known known′ = (n : ℕ) (these : ℕ → Bool) → a < n → known ≡ mask n these → known′ ≡ mask n (λ b. whole && eqb b a || these b)
+
+-- it is taken out
+abbrev pub Dropped : ℕ → ℕ → ℕ → Type 0
+Dropped a known known′ = (n : ℕ) (these : ℕ → Bool) → a < n → known ≡ mask n these → known′ ≡ mask n (λ b. cond (eqb b a) false (these b))
+
+-- after a write on a side
+pub record Wrote (on-card whole : Bool) (a : ℕ) (k k′ : Known) : Type 0 where
+  pub own : Added whole a (known-in on-card k) (known-in on-card k′)
+  pub others : Dropped a (known-in (not on-card) k) (known-in (not on-card) k′)
+
+-- after a copy
+pub record Copied (whole : Bool) (a : ℕ) (k k′ : Known) : Type 0 where
+  pub on-host : Added whole a (k .host) (k′ .host)
+  pub on-card : Added whole a (k .card) (k′ .card)

@@ -1,5 +1,6 @@
 -- `step` is one step of the definition of a run, it lowers the measure, and it leaves the cells past the plan's.
 use Prim.Native.Nat.{_+_, _≤_, _<_}
+use mathlib.Core.Path.{sym, _∙_}
 use native.Mathlib.Omega.{arith}
 use lib.ListN.{getD}
 use Rattle.model.specs.Sides.{cells}
@@ -21,6 +22,7 @@ use Rattle.reading.proofs.record_at.Reads as record-at-reads
 use Rattle.standing.proofs.acted_on.Reads as acted-on-reads
 use Rattle.reading.proofs.first_cell.Reads as first-cell-reads
 use Rattle.reading.proofs.next_cell.Reads as next-cell-reads
+use Rattle.known.proofs.is_whole.Reads as is-whole-reads
 use Rattle.standing.proofs.over.Reads as over-reads
 use Rattle.standing.proofs.test.Reads as test-reads
 
@@ -43,7 +45,7 @@ Able-here c =
     let x = c .before .before .before .before .before .record-at .result in
     let first = getD (a .room .now) (x .array) 0 in
     let next = getD (a .room .now) (x .array + 1) 0 in
-    Able (arrays-of (a .plan .now)) x (from-of x first) (to-of x first next) (stored-with (runner (a .m) (a .room .now)) (a .t)) (a .m .place .at) (a .host .now) (a .card .now) (a .latest .now)
+    Able (arrays-of (a .plan .now)) x first next (from-of x first) (to-of x first next) (stored-with (runner (a .m) (a .room .now)) (a .t)) (a .m .place .at) (a .host .now) (a .card .now) (a .latest .now)
 
 able-here : (c : tie.After-slice-known7) → Able-here c
 able-here c =
@@ -106,17 +108,23 @@ first-cell-requires c κs = search needs
 next-cell-requires : tie.Need-next-cell-requires
 next-cell-requires c κs = search needs
 
+is-whole-requires : tie.Need-is-whole-requires
+is-whole-requires c κs = search needs
+
 acted-on-requires : tie.Need-acted-on-requires
 acted-on-requires c κs = search needs
 
 act-requires : tie.Need-act-requires
 act-requires c κs =
-    let r = able-here (c .before .before .before .before .before .before) in
-    let s = c .before .before .before .acted-on .ensures (c .before .before .before .before .before .before .before .before .before .before .before .before .before .before .before .before .before .before .before .before .before .args .room .now) in
-    (rw s (r .low), rw s (r .knows), r .kind .0, r .kind .1, r .array, rw (c .before .before .before .before .before .first-cell .ensures, c .before .before .before .before .next-cell .ensures) (r .rooms))
+    let n = c .before .before .before .before .before in
+    let fc = n .before .first-cell .ensures in
+    let nc = n .next-cell .ensures in
+    let r = able-here (n .before .before) in
+    let s = c .before .before .before .acted-on .ensures (n .before .before .before .before .before .before .before .before .before .before .before .before .before .before .before .before .before .args .room .now) in
+    (rw s (r .low), rw (s, fc, nc) (r .sure), r .kind .0, r .kind .1, r .array, rw (fc, nc) (r .rooms))
 
 after-requires : tie.Need-after-requires
-after-requires c κs = let w = c .before .before .before .before .before .before .before .before .before .before .before .before .before .before .before .before .before .before .before .before .before .before .before .before .before .before .before .before .before .pre .1 .stands .placed in (able-here (c .before .before .before .before .before .before .before .before .before .before .before .before .before .before) .few, w .shallow, w .size)
+after-requires c κs = let w = c .before .before .before .before .before .before .before .before .before .before .before .before .before .before .before .before .before .before .before .before .before .before .before .before .before .before .before .before .before .before .pre .1 .stands .placed in (able-here (c .before .before .before .before .before .before .before .before .before .before .before .before .before .before .before) .few, w .shallow, w .size)
 
 tally-after-requires : tie.Need-tally-after-requires
 tally-after-requires c κs = search needs
@@ -135,16 +143,20 @@ same-length-5 c = search needs
 
 returns-3 : tie.Need-returns-3
 returns-3 c =
-    let a = c .before .before .before .before .before .before .before .before .before .before .before .before .before .before .before .before .before .before .before .before .before .before .before .before .before .before .before .before .before .before .before in
-    let r = able-here (c .before .before .before .before .before .before .before .before .before .before .before .before .before .before .before .before) in
-    let x = c .before .before .before .before .before .before .before .before .before .before .before .before .before .before .before .before .before .before .before .before .before .record-at in
+    let n = c .before .before .before .before .before .before .before .before .before .before .before .before .before .before .before in
+    let fc = n .before .first-cell .ensures in
+    let nc = n .next-cell .ensures in
+    let able = n .before .before in
+    let a = able .before .before .before .before .before .before .before .before .before .before .before .before .before .before .before in
+    let r = able-here able in
+    let x = able .before .before .before .before .before .record-at in
     let v = c .before .before .before .before .before .before .before .before .before .act in
-    let there = array-there (c .before .before .before .before .before .before .before .before .before .before .before .before .before .before .before .before .before .before) in
-    let acts = v .ensures .0 (arrays-of (a .args .plan .now)) (rw (c .before .before .before .before .before .before .before .before .before .before .before .before .before .before .before .first-cell .ensures, c .before .before .before .before .before .before .before .before .before .before .before .before .before .before .next-cell .ensures) (r .spans)) in
+    let there = array-there (able .before .before) in
+    let acts = v .ensures .0 (arrays-of (a .args .plan .now)) (rw (fc, nc) (r .spans)) (λ z. rw (fc, nc) (r .whole (rw (fc, nc) at (sym (c .before .before .before .before .before .before .before .before .before .before .before .before .before .before .is-whole .ensures) ∙ z)))) in
     let held = rw (c .before .before .before .before .before .before .before .before .before .before .before .before .before .acted-on .ensures (a .args .room .now)) at acts in
-    let i : c .before .before .before .before .before .before .before .before .before .before .before .before .before .before .next-cell .result ≤ cells (arrays-of (a .args .plan .now)) = rw (c .before .before .before .before .before .before .before .before .before .before .before .before .before .before .next-cell .ensures) (r .inside) in
+    let i : n .next-cell .result ≤ cells (arrays-of (a .args .plan .now)) = rw nc (r .inside) in
     ensured _ _ _ _ _ _ _ _ _ _ _ _ _ (a .pre .1)
-    (λ k w. rw (c .before .after .ensures, c .tally-after .ensures) (at-record _ _ _ _ _ _ _ (a .pre .0) k w (before-end (c .before .before .before .before .before .before .before .before .before .before .before .before .before .before .before .before .before .before .before .before .before .before)) _ (x .ensures) (r .kind .1) _ _ (a .pre .1 .stands .starts .first _ (omega arith)) (a .pre .1 .stands .starts .first _ (omega arith)) (v .result) _ _ _ held))
+    (λ k w. rw (c .before .after .ensures, c .tally-after .ensures) (at-record _ _ _ _ _ _ _ (a .pre .0) k w (before-end (able .before .before .before .before .before .before)) _ (x .ensures) (r .kind .1) _ _ (a .pre .1 .stands .starts .first _ (omega arith)) (a .pre .1 .stands .starts .first _ (omega arith)) (v .result) _ _ _ held))
     (same-more i (v .ensures .1 .0)) (same-more i (v .ensures .1 .1 .0)) (same-more i (v .ensures .1 .1 .1))
 
 pub step-spec : {M : Type 1} → statement M
@@ -165,6 +177,7 @@ step-spec =
     slice-read-next
     first-cell-requires
     next-cell-requires
+    is-whole-requires
     acted-on-requires
     act-requires
     after-requires

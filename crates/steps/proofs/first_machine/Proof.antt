@@ -13,11 +13,11 @@ first-place-requires c κs = search needs
 all-flags-requires : tie.Need-all-flags-requires
 all-flags-requires c κs = search needs
 
-known-on-requires : tie.Need-known-on-requires
-known-on-requires c κs = search needs
+known-at-start-requires : tie.Need-known-at-start-requires
+known-at-start-requires c κs = search needs
 
 returns : tie.Need-returns
-returns c = rw (c .before .before .first-place .ensures, c .before .all-flags .ensures, c .known-on .ensures)
+returns c = rw (c .before .before .first-place .ensures, c .before .all-flags .ensures, c .known-at-start .ensures)
 
 pub first-machine-spec : {M : Type 1} → statement M
-first-machine-spec = tie.close (tie.spec first-place-requires all-flags-requires known-on-requires returns)
+first-machine-spec = tie.close (tie.spec first-place-requires all-flags-requires known-at-start-requires returns)

@@ -1,7 +1,7 @@
 -- No promise of an entry point rests on this text: how a run begins, and what its steps leave at its end.
 use Prim.Native.Nat.{ℕ, _≤_, _<_}
 use mathlib.Core.Path.{_≡_}
-use mathlib.Core.Bool.{true, false}
+use mathlib.Core.Bool.{true}
 use mathlib.Core.List.{List}
 use lib.ListN.{length, getD}
 use Rattle.model.specs.declared.Verdict.the-variants.{Accepted}
@@ -11,7 +11,7 @@ use Rattle.contents.specs.declared.Opened.{Opened}
 use Rattle.reading.specs.Bytes.{kind-of, arrays-of}
 use Rattle.format.specs.Opening.{opening, opened}
 use Rattle.memories.specs.Flags.{mask}
-use Rattle.known.specs.Inner.Knowing.{known-on}
+use Rattle.known.specs.Inner.Knowing.{at-start}
 use Rattle.standing.specs.declared.Machine.{Machine}
 use Rattle.places.specs.Inner.Places.{started}
 use Rattle.standing.specs.Inner.Standing.{runner, Reaches}
@@ -21,9 +21,9 @@ pub record Fronted (starts room : List ℕ) : Type 0 where
   pub size : length room ≡ 65
   pub front : (a : ℕ) → a < 33 → getD room a 0 ≡ getD starts a 0
 
--- before the first record: of no cell is anything known
+-- before the first record
 abbrev pub first-machine : ℕ → ℕ → ℕ → Machine
-first-machine records arrays bodies = record { place = started records; flags = mask arrays (λ a. true); «other_flags» = 0; known = known-on false 0 0; bodies = bodies; last = record { 0 = 0 }; verdict = Accepted; running = true }
+first-machine records arrays bodies = record { place = started records; flags = mask arrays (λ a. true); «other_flags» = 0; known = at-start arrays; bodies = bodies; last = record { 0 = 0 }; verdict = Accepted; running = true }
 
 -- a machine whose room is no longer there has reached a configuration of the run
 pub record ReachesEnd (f choices : List ℕ) (m : Machine) (own others latest : List ℕ) (t : Tally) : Type 0 where
