@@ -5,13 +5,13 @@ ghost use Prim.Native.Nat.{ℕ, _≤_};
 ghost use Rattle.model.specs.Rows.{first};
 ghost use Rattle.reading.specs.Bytes.{byte-at, kind-of, array-count, body-count, record-count, bodies-at};
 ghost use Rattle.frame.specs.Frame.{header-fits, header-rows, tail-rows};
+use check_bytes::check_sums;
 use model::Verdict;
 use reading::byte;
 use reading::kinds::DECLARED;
 use reading::kinds::MOST_ARRAYS;
 use reading::kinds::MOST_BODIES;
 use reading::kinds::PLAIN;
-use sums::check_sums;
 
 // Whether the header's bytes keep their rules.
 fn header_fits(kind: u8, arrays: u8, bodies: u8, zero: u8) -> bool

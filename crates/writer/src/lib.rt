@@ -13,6 +13,7 @@ ghost use Rattle.passes.specs.Inner.Passes.{PassAt};
 ghost use Rattle.sizes.specs.Inner.Sizes.{DeclaredFile, called, record-size, place, Places};
 ghost use Rattle.given.specs.Inner.Over.{over, bytes-of};
 ghost use Rattle.writer.specs.Inner.Pieces.{Arms, nested, piece, pieces, contents-bytes};
+use check_bytes::check_sums;
 use contents::Opened;
 use given::put_declarations;
 use given::put_record;
@@ -26,7 +27,6 @@ use reading::kinds::PLAIN;
 use reading::record_at;
 use reading::second_arm;
 use sizes::body0_end;
-use sums::check_sums;
 
 // Bytes as they are.
 pub fn put_bytes(out: &mut [u8], bytes: &[u8])
@@ -132,7 +132,7 @@ pub fn put_entry(out: &mut [u8], records: u16)
 
 // The check bytes of the n bytes before them.
 pub fn put_checks(out: &mut [u8], n: usize)
-    requires { ⌜ (n < 65536) × (n + 2 ≤ length (now out)) ⌝ }
+    requires { ⌜ n + 2 ≤ length (now out) ⌝ }
     ensures { λ _. ⌜ now (out .exit) ≡ over (take n (now (out .entry)) ++ check-bytes (take n (now (out .entry)))) (now (out .entry)) ⌝ }
 {
     let s = check_sums(&out[..n]);

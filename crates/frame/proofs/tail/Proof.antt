@@ -25,7 +25,7 @@ slice-aggregate-check-sums : tie.Need-slice-aggregate-check-sums
 slice-aggregate-check-sums c = simp length-take (omega arith)
 
 check-sums-requires : tie.Need-check-sums-requires
-check-sums-requires c κs = simp length-take (omega arith)
+check-sums-requires c κs = search needs
 
 byte-requires : tie.Need-byte-requires
 byte-requires c κs = search needs

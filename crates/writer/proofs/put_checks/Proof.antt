@@ -13,7 +13,7 @@ slice-aggregate-check-sums : tie.Need-slice-aggregate-check-sums
 slice-aggregate-check-sums c = simp length-take (omega arith)
 
 check-sums-requires : tie.Need-check-sums-requires
-check-sums-requires c κs = simp length-take (omega arith)
+check-sums-requires c κs = search needs
 
 slice-write-out : tie.Need-slice-write-out
 slice-write-out c = search needs
@@ -28,7 +28,7 @@ same-length : tie.Need-same-length
 same-length c = search needs
 
 returns : tie.Need-returns
-returns c = over-checks _ _ _ _ (c .before .before .before .pre .1) (c .check-sums .ensures .0) (c .check-sums .ensures .1)
+returns c = over-checks _ _ _ _ (c .before .before .before .pre) (c .check-sums .ensures .0) (c .check-sums .ensures .1)
 
 pub put-checks-spec : {M : Type 1} → statement M
 put-checks-spec =

@@ -64,7 +64,7 @@ add-put-checks : tie.Need-add-put-checks
 add-put-checks c = record { fits = omega (arith, room (c .before .before .before .before .before .before .before .before .before .before .before .before)) }
 
 put-checks-requires : tie.Need-put-checks-requires
-put-checks-requires c κs = (omega (arith, room (c .before .before .before .before .before .before .before .before .before .before .before .before)), omega (arith, room (c .before .before .before .before .before .before .before .before .before .before .before .before)))
+put-checks-requires c κs = omega (arith, room (c .before .before .before .before .before .before .before .before .before .before .before .before))
 
 same-length : tie.Need-same-length
 same-length c = omega (arith, c .before .out3 .given, c .before .before .before .before .before .out2 .given, c .before .before .before .before .before .before .before .before .before .before .out .given)

@@ -1,0 +1,2 @@
+-- A front joined to a back.
+pub mod Joins

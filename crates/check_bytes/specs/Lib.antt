@@ -1,0 +1,2 @@
+-- The check sums of any bytes.
+pub mod Inner
