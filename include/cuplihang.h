@@ -51,6 +51,10 @@ uint64_t plan_run(const uint8_t *plan, size_t plan_length, uint64_t *host, size_
 uint64_t plan_memory_view(const uint64_t *host, size_t host_length, const uint64_t *card, size_t card_length, const uint64_t *latest,
                           size_t latest_length, uint64_t first, uint64_t end);
 
+/* The two check sums of any bytes: the plain sum in bits 0 to 15, the weighted sum in 16 to 31, both below 251. All other bits are 0. Of a plan up to its
+   check bytes they are what the check bytes hold. */
+uint64_t plan_back_sums(const uint8_t *back, size_t back_length);
+
 #ifdef __cplusplus
 }
 #endif

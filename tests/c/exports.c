@@ -80,5 +80,9 @@ int main(void) {
     wrong += differs("plan_memory_view of no cell", plan_memory_view(host, 2, card, 2, latest, 2, 1, 1), answer(0, 23, 0, 0));
     latest[0] = 6;
     wrong += differs("plan_memory_view of stale cells", plan_memory_view(host, 2, card, 2, latest, 2, 0, 1), answer(0, 24, 0, 0));
+
+    /* The sums of case 3 up to its check bytes are its check bytes. */
+    wrong += differs("plan_back_sums", plan_back_sums(case_3, 18), 9 | 0x3B << 16);
+    wrong += differs("plan_back_sums of nothing", plan_back_sums(NULL, 0), 0);
     return wrong != 0;
 }

@@ -54,6 +54,28 @@ pub fn body_view(plan: &[u8], body: u64) -> Result<Range<usize>, u16> {
 
 // ---- The later services, each switched on by its feature ----
 
+#[cfg(feature = "sums")]
+mod summing {
+    extern "C" {
+        fn plan_back_sums(back: *const u8, back_length: usize) -> u64;
+    }
+
+    /// The plain sum in bits 0–15, the weighted sum in 16–31.
+    fn unpack(packed: u64) -> [u8; 2] {
+        let [plain, weighted] = [packed as u16, (packed >> 16) as u16];
+        assert_eq!(packed >> 32, 0, "stray bits in the sums {packed:#x}");
+        assert!(plain < 251 && weighted < 251, "sums of {plain} and {weighted}");
+        [plain as u8, weighted as u8]
+    }
+
+    /// The two check sums of any bytes.
+    pub fn back_sums(back: &[u8]) -> [u8; 2] {
+        unpack(unsafe { plan_back_sums(back.as_ptr(), back.len()) })
+    }
+}
+#[cfg(feature = "sums")]
+pub use summing::*;
+
 #[cfg(feature = "check")]
 mod checking {
     use super::Answer;

@@ -8,6 +8,7 @@
 pub mod archive;
 pub mod examples;
 pub mod generate;
+pub mod plain_sums;
 pub mod programs;
 pub mod walker;
 pub mod words;

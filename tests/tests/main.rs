@@ -11,4 +11,5 @@ mod planlist;
 mod programs;
 mod run;
 mod streams;
+mod sums;
 mod walker;

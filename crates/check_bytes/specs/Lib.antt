@@ -1,2 +1,4 @@
 -- The check sums of any bytes.
+pub mod Checks
+pub mod Packed
 pub mod Inner

@@ -10,6 +10,8 @@ use sums::stretches::rest;
 use sums::stretches::rows_end;
 use sums::stretches::stretch;
 
+pub mod packing;
+
 // The two check sums.
 pub struct Sums {
     pub plain: u8,

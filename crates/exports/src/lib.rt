@@ -1,6 +1,7 @@
 // The functions for C and Rust: include/cuplihang.h declares them.
 ghost use mathlib.Core.Path.{_≡_};
 ghost use Rattle.exports.specs.Exported.{packed-opening, packed-body-view, PackedCheck, packed-judge, packed-expand, packed-expansion-length, PackedRun, packed-memory-view};
+ghost use Rattle.check_bytes.specs.Packed.{packed-back-sums};
 ghost use Rattle.packing.specs.Packed.{tally-of};
 ghost use Rattle.expand.specs.Expanded.{expanded};
 ghost use Rattle.run.specs.Running.{lent};
@@ -115,4 +116,12 @@ pub extern "C" fn plan_memory_view(
     ensures { λ r. ⌜ r ≡ packed-memory-view (now (host .entry)) (now (card .entry)) (now (latest .entry)) first end ⌝ }
 {
     pack_view(view::memory_side(host, card, latest, first, end))
+}
+
+// The check sums of any bytes.
+#[no_mangle]
+pub extern "C" fn plan_back_sums(back: &[u8]) -> u64
+    ensures { λ r. ⌜ r ≡ packed-back-sums (now (back .entry)) ⌝ }
+{
+    check_bytes::packing::packed_back_sums(back)
 }

@@ -1,8 +1,9 @@
 //! Times of the library beside those of the walker: same process, same inputs,
-//! release. Usage: `bench [open] [check] [judge] [run]`, all without a word.
+//! release. Usage: `bench [open] [sums] [check] [judge] [run]`, all without a word.
 //! Nothing is asserted; the ratio is printed.
 
 use cuplihang_tests::generate::*;
+use cuplihang_tests::plain_sums;
 use cuplihang_tests::walker::check::summary;
 use cuplihang_tests::walker::{self, Memories, Tally};
 use std::cell::RefCell;
@@ -105,6 +106,13 @@ mod library {
         black_box(archive::open(file));
     });
 
+    #[cfg(not(feature = "sums"))]
+    pub const SUMS: Option<Work> = None;
+    #[cfg(feature = "sums")]
+    pub const SUMS: Option<Work> = Some(|file, _| {
+        black_box(archive::back_sums(file));
+    });
+
     #[cfg(not(feature = "check"))]
     pub const CHECK: Option<Work> = None;
     #[cfg(feature = "check")]
@@ -162,6 +170,44 @@ fn bench_open() {
         compare(name, &files, &[], library::OPEN, |file, _| {
             let _ = black_box(walker::open(file));
         });
+    }
+}
+
+/// The check sums beside those in Rust: with a remainder after each byte (the
+/// walker), one byte at a time without one, and by columns as the library.
+fn bench_sums() {
+    let mut rng = Rng::new(97);
+    let mut bytes = |length: usize| (0..length).map(|_| rng.draw() as u8).collect();
+    for (name, input) in [("sums: 8,390 bytes", bytes(8390)), ("sums: 64 MiB", bytes(64 << 20))] {
+        sums_beside(name, &[input]);
+    }
+}
+
+fn sums_beside(name: &str, input: &[Vec<u8>]) {
+    let length = input[0].len() as f64;
+    let room = Room::new(&[]);
+    let mut remainder = on(input, &room, |bytes, _| {
+        black_box(walker::sums(bytes));
+    });
+    let mut by_bytes = on(input, &room, |bytes, _| {
+        black_box(plain_sums::by_bytes(bytes));
+    });
+    let mut by_columns = on(input, &room, |bytes, _| {
+        black_box(plain_sums::by_columns(bytes));
+    });
+    let in_rust = ["remainder at each byte", "byte by byte", "by columns"];
+    let Some(library) = library::SUMS else {
+        for (form, time) in in_rust.iter().zip(times([&mut remainder, &mut by_bytes, &mut by_columns])) {
+            println!("{name:<48} in Rust, {form:<24} {:>7.3} bytes/ns", length / time);
+        }
+        return;
+    };
+    let [ours, theirs @ ..] =
+        times([&mut on(input, &room, library), &mut remainder, &mut by_bytes, &mut by_columns]);
+    println!("{name:<48} library {ours:>13.0} ns  {:>7.3} bytes/ns", length / ours);
+    for (form, time) in in_rust.iter().zip(theirs) {
+        let speed = length / time;
+        println!("{name:<48} in Rust, {form:<24} {speed:>7.3} bytes/ns  ratio {:.2}", ours / time);
     }
 }
 
@@ -299,10 +345,15 @@ fn copied_cell() {
 fn main() {
     let words: Vec<String> = std::env::args().skip(1).collect();
     let wanted = |word: &str| words.is_empty() || words.iter().any(|given| given == word);
-    let services: [(&str, fn()); 4] =
-        [("open", bench_open), ("check", bench_check), ("judge", bench_judge), ("run", bench_run)];
+    let services: [(&str, fn()); 5] = [
+        ("open", bench_open),
+        ("sums", bench_sums),
+        ("check", bench_check),
+        ("judge", bench_judge),
+        ("run", bench_run),
+    ];
     if let Some(unknown) = words.iter().find(|word| services.iter().all(|(name, _)| name != word)) {
-        eprintln!("bench: no service `{unknown}`; there are open, check, judge, run");
+        eprintln!("bench: no service `{unknown}`; there are open, sums, check, judge, run");
         std::process::exit(2);
     }
     for (name, bench) in services {

@@ -9,6 +9,7 @@ pub mod open;
 pub mod plan;
 pub mod plancheck;
 pub mod run;
+pub mod sums;
 pub mod verdict;
 pub mod views;
 
@@ -18,5 +19,6 @@ pub use judge::judge;
 pub use open::{body_view, open, Refusal};
 pub use plan::{FileKind, Plan, Record};
 pub use run::{run, Memories, RunEnd, Tally};
+pub use sums::sums;
 pub use verdict::Verdict;
 pub use views::memory_view;
