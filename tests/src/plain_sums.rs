@@ -1,12 +1,12 @@
 //! The check sums in plain Rust without a remainder for each byte, for the
 //! benchmark: safe code, one function for each shape.
 
-const ROW: usize = 32;
+pub const ROW: usize = 32;
 /// 22 rows: the sum of each byte of a column times the number of its row fits
 /// 16 bits, 255 × (1 + .. + 22).
-const BAND: usize = 22 * ROW;
+pub const BAND: usize = 22 * ROW;
 /// 64 bands: all sums of a column fit 32 bits.
-const STRETCH: usize = 64 * BAND;
+pub const STRETCH: usize = 64 * BAND;
 /// Fewer bytes than these are added one by one.
 const FEW: usize = 128;
 

@@ -4,11 +4,8 @@
 
 use cuplihang_tests::archive::back_sums;
 use cuplihang_tests::generate::*;
-use cuplihang_tests::{plain_sums, walker};
-
-const ROW: usize = 32;
-const BAND: usize = 22 * ROW;
-const STRETCH: usize = 64 * BAND;
+use cuplihang_tests::plain_sums::{self, BAND, ROW, STRETCH};
+use cuplihang_tests::walker;
 
 fn random(rng: &mut Rng, length: usize) -> Vec<u8> {
     (0..length).map(|_| rng.draw() as u8).collect()
