@@ -52,8 +52,12 @@ uint64_t plan_memory_view(const uint64_t *host, size_t host_length, const uint64
                           size_t latest_length, uint64_t first, uint64_t end);
 
 /* The two check sums of any bytes: the plain sum in bits 0 to 15, the weighted sum in 16 to 31, both below 251. All other bits are 0. Of a plan up to its
-   check bytes they are what the check bytes hold. */
+   check bytes they are what the check bytes hold. Of the back of one they are what plan_joined_sums needs to know of it. */
 uint64_t plan_back_sums(const uint8_t *back, size_t back_length);
+
+/* The two check sums of a front and a back that follows it, from the front and the sums of the back, in the same form. `back_sums` is what plan_back_sums gave
+   for the back, or this function for what it was joined from. It may be of any value: each of its two fields counts modulo 251, and bits from 32 on for nothing. */
+uint64_t plan_joined_sums(const uint8_t *front, size_t front_length, uint64_t back_sums);
 
 #ifdef __cplusplus
 }

@@ -84,5 +84,7 @@ int main(void) {
     /* The sums of case 3 up to its check bytes are its check bytes. */
     wrong += differs("plan_back_sums", plan_back_sums(case_3, 18), 9 | 0x3B << 16);
     wrong += differs("plan_back_sums of nothing", plan_back_sums(NULL, 0), 0);
+    wrong += differs("plan_joined_sums", plan_joined_sums(case_3, 10, plan_back_sums(case_3 + 10, 8)), 9 | 0x3B << 16);
+    wrong += differs("plan_joined_sums of no front", plan_joined_sums(NULL, 0, (uint64_t)7 << 32 | 252 << 16 | 250), 250 | 1 << 16);
     return wrong != 0;
 }

@@ -58,9 +58,15 @@ pub fn body_view(plan: &[u8], body: u64) -> Result<Range<usize>, u16> {
 mod summing {
     extern "C" {
         fn plan_back_sums(back: *const u8, back_length: usize) -> u64;
+        fn plan_joined_sums(front: *const u8, front_length: usize, back_sums: u64) -> u64;
     }
 
-    /// The plain sum in bits 0–15, the weighted sum in 16–31.
+    /// Two sums as a number: the plain one in bits 0–15, the weighted in 16–31.
+    pub fn packed([plain, weighted]: [u8; 2]) -> u64 {
+        u64::from(plain) | u64::from(weighted) << 16
+    }
+
+    /// The two sums in a number that the library gave.
     fn unpack(packed: u64) -> [u8; 2] {
         let [plain, weighted] = [packed as u16, (packed >> 16) as u16];
         assert_eq!(packed >> 32, 0, "stray bits in the sums {packed:#x}");
@@ -71,6 +77,12 @@ mod summing {
     /// The two check sums of any bytes.
     pub fn back_sums(back: &[u8]) -> [u8; 2] {
         unpack(unsafe { plan_back_sums(back.as_ptr(), back.len()) })
+    }
+
+    /// The two check sums of a front and a back. The back's are a number of any
+    /// value: 16 bits for each, the rest ignored.
+    pub fn joined_sums(front: &[u8], back_sums: u64) -> [u8; 2] {
+        unpack(unsafe { plan_joined_sums(front.as_ptr(), front.len(), back_sums) })
     }
 }
 #[cfg(feature = "sums")]

@@ -4,6 +4,7 @@ mod c;
 mod check;
 mod examples;
 mod expand;
+mod joins;
 mod loopturns;
 mod open;
 mod plancheck;

@@ -7,7 +7,7 @@ use cuplihang_tests::generate::*;
 use cuplihang_tests::plain_sums::{self, BAND, ROW, STRETCH};
 use cuplihang_tests::walker;
 
-fn random(rng: &mut Rng, length: usize) -> Vec<u8> {
+pub fn random(rng: &mut Rng, length: usize) -> Vec<u8> {
     (0..length).map(|_| rng.draw() as u8).collect()
 }
 

@@ -1,16 +1,34 @@
--- The sums modulo 251 of a front joined to a back.
-use mathlib.Core.Path.{_≡_, ap}
+-- A front joined to a back: sum by sum, for any cut, and in either order.
+use mathlib.Core.Path.{_≡_, refl, sym, _∙_, ap}
 use mathlib.Core.List.{List, [], _++_}
 use Prim.Native.Nat.{ℕ, _<_, _+_, _*_, _/_, _%_}
-use native.Mathlib.Nat.{add-mul, mul-add, mul-left-comm, div-add-mod}
+use native.Mathlib.Nat.{add-zero, add-mul, mul-zero, mul-add, mul-left-comm, div-add-mod}
 use native.Mathlib.Omega.{arith}
 use lib.ListN.{length, length-append}
-use Rattle.sums.specs.Sums.{plain-sum, weighted-sum}
+use Rattle.sums.specs.Sums.{plain-sum, weighted-sum, check-bytes}
 use Rattle.sums.specs.Inner.Stretches.{TotalsOf}
-use Rattle.check_bytes.specs.Inner.Joined.{Joined}
+use Rattle.check_bytes.specs.Checks.{sums-of, onto, bytes-of}
+use Rattle.check_bytes.specs.Claims.{BothOrders, ThreeParts}
 use Rattle.check_bytes.specs.declared.Sums.{Sums}
 use Rattle.sums.specs.declared.stretches.Totals.{Totals}
 use Rattle.sums.proofs.Parts.{plain-append, weighted-append}
+
+-- r has the sums of x joined to those of a back, sum by sum
+pub record Joined (x : List ℕ) (back r : Sums) : Type 0 where
+  pub plain : r .plain ≡ (plain-sum x + back .plain) % 251
+  pub weighted : r .weighted ≡ (weighted-sum 1 x + length x * back .plain + back .weighted) % 251
+
+joins : (x : List ℕ) (back : Sums) → Joined x back (onto x back)
+unfolding onto
+joins x back = record { plain = refl; weighted = refl }
+
+-- both sums at once
+pub alike : (p w : ℕ) {k l : ℕ} → k ≡ p → l ≡ w → _≡_ {A = Sums} (record { plain = k; weighted = l }) (record { plain = p; weighted = w })
+alike p w e f = rw (e, f)
+
+pub joined-is : (x : List ℕ) (back r : Sums) → Joined x back r → r ≡ onto x back
+unfolding onto
+joined-is x back r j = alike _ _ (j .plain) (j .weighted)
 
 -- a product counts modulo 251 with its factor
 times : (n k : ℕ) → n * k ≡ 251 * (n * (k / 251)) + n * (k % 251)
@@ -34,3 +52,19 @@ joined-more x y back r q j k =
       plain = omega (arith, plain-append x y, j .plain, k .plain);
       weighted = omega (arith, weighted-append x y, times (length x) (plain-sum y + back .plain), mul-add (length x) (plain-sum y) (back .plain), add-mul (length x) (length y) (back .plain), j .weighted, k .weighted);
     }
+
+pub three-parts : ThreeParts
+three-parts front middle back = joined-is (front ++ middle) back _ (joined-more front middle back _ _ (joins middle back) (joins front (onto middle back)))
+
+-- the sums of any bytes are those of a front with nothing behind it
+pub nothing-behind : (s : List ℕ) → onto s (record { plain = 0; weighted = 0 }) ≡ sums-of s
+unfolding onto
+nothing-behind s = simp (mul-zero, add-zero)
+
+-- for every cut
+pub cut : (front back : List ℕ) → onto front (sums-of back) ≡ sums-of (front ++ back)
+cut front back = ap (onto front) (sym (nothing-behind back)) ∙ three-parts front back _ ∙ nothing-behind (front ++ back)
+
+pub both-orders : BothOrders
+unfolding check-bytes
+both-orders front back = ap bytes-of (cut front back)

@@ -1,2 +1,3 @@
--- A front joined to a back.
+-- A front joined to a back, and the sums packed and unpacked.
 pub mod Joins
+pub mod Unpacks

@@ -1,4 +1,4 @@
--- The check sums of any bytes.
+-- The check sums of any bytes, and of a front and a back.
 pub mod Checks
 pub mod Packed
-pub mod Inner
+pub mod Claims

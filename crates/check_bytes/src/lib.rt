@@ -1,8 +1,8 @@
-// The check sums of any bytes.
+// The check sums of any bytes, and those of a front and a back from the back's sums.
 ghost use mathlib.Core.Path.{_≡_};
 ghost use Prim.Native.Nat.{_+_, _*_, _^_, _%_, _≤_};
 ghost use Rattle.sums.specs.Sums.{plain-sum, weighted-sum};
-ghost use Rattle.check_bytes.specs.Inner.Joined.{Joined};
+ghost use Rattle.check_bytes.specs.Checks.{onto};
 use sums::stretches::STRETCH;
 use sums::stretches::Totals;
 use sums::stretches::earlier;
@@ -31,9 +31,9 @@ fn in_front(front: Totals, n: usize, back: Sums) -> Sums
     }
 }
 
-// The sums of a front and of what is behind it, stretch by stretch from the last to the first.
-fn joined_sums(front: &[u8], back: Sums) -> Sums
-    ensures { λ r. ⌜ Joined (now (front .entry)) back r ⌝ }
+// The sums of a front and a back, from the front's bytes and the back's sums: stretch by stretch, from the last to the first.
+pub fn joined_sums(front: &[u8], back: Sums) -> Sums
+    ensures { λ r. ⌜ r ≡ onto (now (front .entry)) back ⌝ }
 {
     let mut end = rows_end(front.len());
     let mut sums = in_front(rest(&front[end..]), front.len() - end, back);

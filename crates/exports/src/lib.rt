@@ -1,7 +1,7 @@
 // The functions for C and Rust: include/cuplihang.h declares them.
 ghost use mathlib.Core.Path.{_≡_};
 ghost use Rattle.exports.specs.Exported.{packed-opening, packed-body-view, PackedCheck, packed-judge, packed-expand, packed-expansion-length, PackedRun, packed-memory-view};
-ghost use Rattle.check_bytes.specs.Packed.{packed-back-sums};
+ghost use Rattle.check_bytes.specs.Packed.{packed-back-sums, packed-joined-sums};
 ghost use Rattle.packing.specs.Packed.{tally-of};
 ghost use Rattle.expand.specs.Expanded.{expanded};
 ghost use Rattle.run.specs.Running.{lent};
@@ -124,4 +124,12 @@ pub extern "C" fn plan_back_sums(back: &[u8]) -> u64
     ensures { λ r. ⌜ r ≡ packed-back-sums (now (back .entry)) ⌝ }
 {
     check_bytes::packing::packed_back_sums(back)
+}
+
+// The check sums of a front and a back, from the front and the back's sums.
+#[no_mangle]
+pub extern "C" fn plan_joined_sums(front: &[u8], back_sums: u64) -> u64
+    ensures { λ r. ⌜ r ≡ packed-joined-sums (now (front .entry)) «back_sums» ⌝ }
+{
+    check_bytes::packing::packed_joined_sums(front, back_sums)
 }

@@ -113,6 +113,14 @@ mod library {
         black_box(archive::back_sums(file));
     });
 
+    #[cfg(not(feature = "sums"))]
+    pub const BACK_FIRST: Option<Work> = None;
+    #[cfg(feature = "sums")]
+    pub const BACK_FIRST: Option<Work> = Some(|file, _| {
+        let (front, back) = file.split_at(file.len() / 2);
+        black_box(archive::joined_sums(front, archive::packed(archive::back_sums(back))));
+    });
+
     #[cfg(not(feature = "check"))]
     pub const CHECK: Option<Work> = None;
     #[cfg(feature = "check")]
@@ -181,6 +189,11 @@ fn bench_sums() {
     for (name, input) in [("sums: 8,390 bytes", bytes(8390)), ("sums: 64 MiB", bytes(64 << 20))] {
         sums_beside(name, &[input]);
     }
+    let walk: Work = |file, _| {
+        let (front, back) = file.split_at(file.len() / 2);
+        black_box(walker::joined(front, walker::sums(back)));
+    };
+    compare("sums: 8,390 bytes, back half first", &[bytes(8390)], &[], library::BACK_FIRST, walk);
 }
 
 fn sums_beside(name: &str, input: &[Vec<u8>]) {

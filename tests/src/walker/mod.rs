@@ -19,6 +19,6 @@ pub use judge::judge;
 pub use open::{body_view, open, Refusal};
 pub use plan::{FileKind, Plan, Record};
 pub use run::{run, Memories, RunEnd, Tally};
-pub use sums::sums;
+pub use sums::{joined, sums};
 pub use verdict::Verdict;
 pub use views::memory_view;

@@ -5,9 +5,8 @@ use native.Mathlib.Omega.{arith}
 use native.Mathlib.Nat.{sub-zero}
 use lib.ListN.{length, take, drop, take-append-drop, length-take, length-drop}
 use lib.Seq.{take-all}
-use Rattle.check_bytes.specs.Inner.Joined.{Joined}
 use Rattle.sums.proofs.Parts.{part-part}
-use Rattle.check_bytes.proofs.Joins.{joined-by, joined-none, joined-more}
+use Rattle.check_bytes.proofs.Joins.{Joined, joined-is, joined-by, joined-none, joined-more}
 use borrow.Author.Needs.{needs}
 use Rattle.check_bytes.proofs.joined_sums.Statement.{statement}
 use Rattle.check_bytes.proofs.joined_sums.Tie as tie
@@ -93,7 +92,7 @@ returns c =
     let l = c .before .loop in
     let front = c .before .before .before .before .before .before .before .args .front .now in
     let z : l .end ≡ 0 = omega arith in
-    rw (take-append-drop (c .before .before .before .before .before .rows-end .result) front) at (joined-more _ _ _ _ _ (behind (c .before .before)) (rw (z, sub-zero) at (l .inv .2)))
+    joined-is front (c .before .before .before .before .before .before .before .args .back) _ (rw (take-append-drop (c .before .before .before .before .before .rows-end .result) front) at (joined-more _ _ _ _ _ (behind (c .before .before)) (rw (z, sub-zero) at (l .inv .2))))
 
 pub joined-sums-spec : {M : Type 1} → statement M
 joined-sums-spec =
