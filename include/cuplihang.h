@@ -3,7 +3,7 @@
    A slice is a pointer and a length, in elements. What the proofs take for granted of a caller:
    - A pointer with a length above 0 points to that many elements, aligned for their type (8 bytes for uint64_t), which nobody else writes during the
      call. With length 0 nothing is read or written through the pointer, which may then be null.
-   - `tally` points to three numbers and `figures` to five; neither may be null.
+   - `tally` points to three numbers and `figures` to five, of plan_sheet to 25; neither may be null.
    - What a function may write overlaps nothing else that is lent in the same call: `out` and `plan`; `host`, `card`, `latest`, `tally`, `figures` among
      each other and with `plan` and `choices`. What is only read may overlap.
    Beyond that no function asks anything: any bytes may be lent as a plan, memories of any lengths, choices of any number. */
@@ -58,6 +58,11 @@ uint64_t plan_back_sums(const uint8_t *back, size_t back_length);
 /* The two check sums of a front and a back that follows it, from the front and the sums of the back, in the same form. `back_sums` is what plan_back_sums gave
    for the back, or this function for what it was joined from. It may be of any value: each of its two fields counts modulo 251, and bits from 32 on for nothing. */
 uint64_t plan_joined_sums(const uint8_t *front, size_t front_length, uint64_t back_sums);
+
+/* Of the 6^n sequences of n operations over one cell (read, write and copy, each on either side), run from the start: how many stop at place 1, and so on
+   to place n, and how many pass. 0 accepted, these n + 1 numbers are the first of the 25 that `figures` points to, and the others are as they were; 38 for n
+   above 24, and all are as they were. The number stands in bits 0 to 15; all other bits are 0. */
+uint64_t plan_sheet(uint64_t n, uint64_t *figures);
 
 #ifdef __cplusplus
 }

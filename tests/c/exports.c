@@ -86,5 +86,15 @@ int main(void) {
     wrong += differs("plan_back_sums of nothing", plan_back_sums(NULL, 0), 0);
     wrong += differs("plan_joined_sums", plan_joined_sums(case_3, 10, plan_back_sums(case_3 + 10, 8)), 9 | 0x3B << 16);
     wrong += differs("plan_joined_sums of no front", plan_joined_sums(NULL, 0, (uint64_t)7 << 32 | 252 << 16 | 250), 250 | 1 << 16);
+
+    uint64_t sheet[25];
+    for (size_t i = 0; i < 25; i++) sheet[i] = 7;
+    wrong += differs("plan_sheet, too long", plan_sheet(25, sheet), answer(0, 38, 0, 0));
+    wrong += differs("its figures", sheet[0], 7);
+    wrong += differs("plan_sheet", plan_sheet(2, sheet), answer(0, 0, 0, 0));
+    wrong += differs("the stops at place 1", sheet[0], 12);
+    wrong += differs("the stops at place 2", sheet[1], 6);
+    wrong += differs("the sequences that pass", sheet[2], 18);
+    wrong += differs("the figure past the sheet's", sheet[3], 7);
     return wrong != 0;
 }

@@ -224,3 +224,23 @@ mod running {
 }
 #[cfg(feature = "run")]
 pub use running::*;
+
+#[cfg(feature = "sheet")]
+mod sheets {
+    extern "C" {
+        // `figures` points to 25 numbers.
+        fn plan_sheet(n: u64, figures: *mut u64) -> u64;
+    }
+
+    /// The first n + 1 figures are written, or the number that refuses it is given.
+    pub fn sheet(n: u64, figures: &mut [u64; 25]) -> Result<(), u16> {
+        let packed = unsafe { plan_sheet(n, figures.as_mut_ptr()) };
+        assert_eq!(packed >> 16, 0, "stray bits in the answer of a sheet {packed:#x}");
+        match packed as u16 {
+            0 => Ok(()),
+            number => Err(number),
+        }
+    }
+}
+#[cfg(feature = "sheet")]
+pub use sheets::*;

@@ -11,6 +11,7 @@ mod plancheck;
 mod planlist;
 mod programs;
 mod run;
+mod sheet;
 mod streams;
 mod sums;
 mod walker;

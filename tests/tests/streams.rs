@@ -40,6 +40,9 @@ fn a_failed_write_is_said() {
     run.args([example("router-expanded.plan"), example("router.choices")]).stdout(full());
     let (_, said) = ended("planrun", run.spawn().unwrap());
     assert_eq!(said, "planrun: standard output: No space left on device\n");
+    let mut sheet = from("plansheet", Stdio::null());
+    let (_, said) = ended("plansheet", sheet.arg("24").stdout(full()).spawn().unwrap());
+    assert_eq!(said, "plansheet: standard output: No space left on device\n");
 }
 
 /// A listing of many pages says it once.

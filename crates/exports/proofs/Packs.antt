@@ -12,8 +12,9 @@ use Rattle.model.specs.declared.Length.{Length}
 use Rattle.expand.specs.Expanded.{expand-answer, length-of-expansion}
 use Rattle.model.specs.declared.View.{View}
 use Rattle.view.specs.Viewing.{memory-side}
+use Rattle.sheet.specs.Sheets.{sheet-answer}
 use Rattle.packing.specs.Packed.{packed-answer, packed-part, packed-length, packed-view}
-use Rattle.exports.specs.Exported.{packed-opening, packed-body-view, packed-judge, packed-expand, packed-expansion-length, packed-memory-view}
+use Rattle.exports.specs.Exported.{packed-opening, packed-body-view, packed-judge, packed-expand, packed-expansion-length, packed-memory-view, packed-sheet}
 
 module _ (f : List ℕ) (o : Opened) (is : o ≡ opened f) where
   -- an answer about the opened file
@@ -49,3 +50,8 @@ body-packs f b p e = ap packed-part e
 pub view-packs : (host card latest : List ℕ) (from end : ℕ) (w : View) → w ≡ memory-side host card latest from end → packed-view w ≡ packed-memory-view host card latest from end
 unfolding packed-memory-view
 view-packs host card latest from end w e = ap packed-view e
+
+-- the answer of a sheet
+pub sheet-packs : (n : ℕ) (v : Verdict) → v ≡ sheet-answer n → packed-answer 0 0 v ≡ packed-sheet n
+unfolding packed-sheet
+sheet-packs n v e = ap (packed-answer 0 0) e

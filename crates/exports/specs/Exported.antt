@@ -11,6 +11,7 @@ use Rattle.expand.specs.Expanded.{expand-answer, length-of-expansion}
 use Rattle.model.specs.declared.End.{End}
 use Rattle.run.specs.Running.{Lent, Runs}
 use Rattle.view.specs.Viewing.{memory-side}
+use Rattle.sheet.specs.Sheets.{sheet-answer}
 use Rattle.packing.specs.Packed.{packed-answer, packed-part, packed-length, packed-view, figures-of}
 
 -- the answer of `plan_open`: no stop is one of its answers
@@ -49,3 +50,7 @@ pub record PackedRun (f choices : List ℕ) (before after : Lent) (figures-befor
 -- the answer of `plan_memory_view`
 unfoldable pub packed-memory-view : List ℕ → List ℕ → List ℕ → ℕ → ℕ → ℕ
 packed-memory-view host card latest from end = packed-view (memory-side host card latest from end)
+
+-- the answer of `plan_sheet`: it is about no file, so the kind is 0
+unfoldable pub packed-sheet : ℕ → ℕ
+packed-sheet n = packed-answer 0 0 (sheet-answer n)

@@ -1,16 +1,18 @@
 // The functions for C and Rust: include/cuplihang.h declares them.
 ghost use mathlib.Core.Path.{_≡_};
-ghost use Rattle.exports.specs.Exported.{packed-opening, packed-body-view, PackedCheck, packed-judge, packed-expand, packed-expansion-length, PackedRun, packed-memory-view};
+ghost use Rattle.exports.specs.Exported.{packed-opening, packed-body-view, PackedCheck, packed-judge, packed-expand, packed-expansion-length, PackedRun, packed-memory-view, packed-sheet};
 ghost use Rattle.check_bytes.specs.Packed.{packed-back-sums, packed-joined-sums};
 ghost use Rattle.packing.specs.Packed.{tally-of};
 ghost use Rattle.expand.specs.Expanded.{expanded};
 ghost use Rattle.run.specs.Running.{lent};
+ghost use Rattle.sheet.specs.Sheets.{sheet-figures};
 use model::Tally;
 use packing::pack_answer;
 use packing::pack_length;
 use packing::pack_part;
 use packing::pack_view;
 use packing::put_figures;
+use sheet::FIGURES;
 
 // Opens a plan.
 #[no_mangle]
@@ -132,4 +134,13 @@ pub extern "C" fn plan_joined_sums(front: &[u8], back_sums: u64) -> u64
     ensures { λ r. ⌜ r ≡ packed-joined-sums (now (front .entry)) «back_sums» ⌝ }
 {
     check_bytes::packing::packed_joined_sums(front, back_sums)
+}
+
+// How many of the sequences of length n over one cell stop at each place, and how many pass.
+#[no_mangle]
+pub extern "C" fn plan_sheet(n: u64, figures: &mut [u64; FIGURES]) -> u64
+    ensures answer { λ r. ⌜ r ≡ packed-sheet n ⌝ }
+    ensures output { λ _. ⌜ now (figures .exit) ≡ sheet-figures n (now (figures .entry)) ⌝ }
+{
+    pack_answer(0, sheet::sheet(n, figures), 0)
 }

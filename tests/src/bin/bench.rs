@@ -1,5 +1,5 @@
 //! Times of the library beside those of the walker: same process, same inputs,
-//! release. Usage: `bench [open] [sums] [check] [judge] [run]`, all without a word.
+//! release. Usage: `bench [open] [sums] [check] [judge] [run] [sheet]`, all without a word.
 //! Nothing is asserted; the ratio is printed.
 
 use cuplihang_tests::generate::*;
@@ -149,6 +149,15 @@ mod library {
         let (memories, choices) = room.memories();
         let (mut tally, mut end) = ([0; 3], [0; 5]);
         black_box(archive::run(file, memories, choices, &mut tally, &mut end));
+    });
+
+    #[cfg(not(feature = "sheet"))]
+    pub const SHEET: Option<Work> = None;
+    #[cfg(feature = "sheet")]
+    pub const SHEET: Option<Work> = Some(|file, _| {
+        let mut figures = [0; 25];
+        let _ = black_box(archive::sheet(file[0].into(), &mut figures));
+        black_box(figures);
     });
 }
 
@@ -355,18 +364,28 @@ fn copied_cell() {
     );
 }
 
+/// A sheet takes no file: the one byte is the length of its sequences.
+fn bench_sheet() {
+    for n in [2, 24] {
+        compare(&format!("sheet: sequences of length {n}"), &[vec![n]], &[], library::SHEET, |file, _| {
+            let _ = black_box(walker::sheet(file[0].into()));
+        });
+    }
+}
+
 fn main() {
     let words: Vec<String> = std::env::args().skip(1).collect();
     let wanted = |word: &str| words.is_empty() || words.iter().any(|given| given == word);
-    let services: [(&str, fn()); 5] = [
+    let services: [(&str, fn()); 6] = [
         ("open", bench_open),
         ("sums", bench_sums),
         ("check", bench_check),
         ("judge", bench_judge),
         ("run", bench_run),
+        ("sheet", bench_sheet),
     ];
     if let Some(unknown) = words.iter().find(|word| services.iter().all(|(name, _)| name != word)) {
-        eprintln!("bench: no service `{unknown}`; there are open, sums, check, judge, run");
+        eprintln!("bench: no service `{unknown}`; there are open, sums, check, judge, run, sheet");
         std::process::exit(2);
     }
     for (name, bench) in services {

@@ -1,0 +1,3 @@
+-- Exercise sheets.
+pub mod Sheets
+pub mod Claims

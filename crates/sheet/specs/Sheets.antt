@@ -1,0 +1,96 @@
+-- Exercise sheets (document 02, request n): short sequences over one cell, and how many of them stop at each place.
+use Prim.Native.Nat.{ℕ, zero, suc}
+use mathlib.Core.Bool.{Bool, true, false, cond}
+use mathlib.Core.List.{List, [], _∷_, _++_, map, flatMap}
+use mathlib.Core.Option.{Option, none, some}
+use lib.ListN.{length, drop}
+use lib.Dec.{eqb, ltb}
+use Rattle.model.specs.declared.Verdict.{Verdict}
+use Rattle.model.specs.declared.Verdict.the-variants.{Accepted, Stopped, Refused}
+use Rattle.model.specs.Rows.{row, first}
+use Rattle.model.specs.Sides.{host, card, Arrays, Cells}
+use Rattle.model.specs.Effects.{Action, read, write, copy}
+use Rattle.model.specs.Blocks.{Block, done, act, Plan}
+use Rattle.model.specs.Runs.{Config, Ending, finished, stopped, out-of-choices, Step, next, ends, step, begin}
+
+-- "over one cell": one array of one cell
+abbrev pub one-cell : Arrays
+one-cell = 1 ∷ []
+
+abbrev pub cell : Cells
+cell = record { array = 0; p = 0; q = 1 }
+
+-- "The six operations are read, write and copy, each on either side."
+abbrev pub operations : List Action
+operations = read host cell ∷ read card cell ∷ write host cell ∷ write card cell ∷ copy host cell ∷ copy card cell ∷ []
+
+-- "the 6^n sequences": each operation in front of each shorter sequence
+unfoldable pub sequences : ℕ → List (List Action)
+sequences zero = [] ∷ []
+sequences (suc n) = flatMap (λ x. map (λ l. x ∷ l) (sequences n)) operations
+
+-- a sequence as records, numbered from r on
+abbrev pub records : ℕ → List Action → Block
+records r [] = done
+records r (x ∷ l) = act r x (records (suc r) l)
+
+-- the plan of a sequence
+abbrev pub plan-of : List Action → Plan
+plan-of l = record { arrays = one-cell; body = records 0 l }
+
+-- a step leads on, or the run has ended
+abbrev pub after-step : (Config → Option Ending) → Step → Option Ending
+after-step more (next k) = more k
+after-step more (ends e) = some e
+
+-- how a run ends, by the definition's own step, if it does so in n steps
+unfoldable pub ending-in : ℕ → Config → Option Ending
+ending-in zero k = none
+ending-in (suc n) k = after-step (ending-in n) (step one-cell k)
+
+-- how the run of a sequence "from the usual start" ends: it makes no choice, and takes a step for each record and one for the end
+abbrev pub ending-of : List Action → Option Ending
+ending-of l = ending-in (suc (length l)) (begin (plan-of l) [])
+
+-- whether a run has stopped at place p: places count from 1, records from 0
+abbrev pub stops-at : ℕ → Option Ending → Bool
+stops-at p none = false
+stops-at p (some finished) = false
+stops-at p (some (stopped r c)) = eqb (suc r) p
+stops-at p (some (out-of-choices r)) = false
+
+-- whether it has passed
+abbrev pub passes : Option Ending → Bool
+passes none = false
+passes (some finished) = true
+passes (some (stopped r c)) = false
+passes (some (out-of-choices r)) = false
+
+-- how many of a list pass a test
+abbrev pub count : {A : Type 0} → (A → Bool) → List A → ℕ
+count f [] = 0
+count f (x ∷ l) = cond (f x) (suc (count f l)) (count f l)
+
+-- n places, from place p on
+abbrev pub places : ℕ → ℕ → List ℕ
+places p zero = []
+places p (suc n) = p ∷ places (suc p) n
+
+-- "how many of the 6^n sequences .. stop at place 1, and so on to n, and last how many pass"
+unfoldable pub figures : ℕ → List ℕ
+figures n =
+    map (λ p. count (λ l. stops-at p (ending-of l)) (sequences n)) (places 1 n)
+    ++ (count (λ l. passes (ending-of l)) (sequences n) ∷ [])
+
+-- "38: n above 24"
+unfoldable pub sheet-answer : ℕ → Verdict
+sheet-answer n = first (row (ltb 24 n) 38 0 ∷ [])
+
+-- the lent figures afterwards: the sheet's first, the others as they were; at a refusal all as they were
+abbrev pub written : ℕ → List ℕ → Verdict → List ℕ
+written n before Accepted = figures n ++ drop (suc n) before
+written n before (Stopped r c) = before
+written n before (Refused number place) = before
+
+unfoldable pub sheet-figures : ℕ → List ℕ → List ℕ
+sheet-figures n before = written n before (sheet-answer n)
