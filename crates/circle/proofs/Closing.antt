@@ -1,25 +1,21 @@
 -- No run of what the expander writes is stopped, and at done the cells moved are those that demand 3's moves come to.
-use Prim.Native.Nat.{ℕ, zero, suc, _+_, _*_, _≤_, _<_}
+use Prim.Native.Nat.{ℕ, _≤_, _<_}
 use mathlib.Core.Path.{_≡_, refl, ap, sym, _∙_, subst}
 use mathlib.Core.Logic.{_⊎_, inl, inr}
-use mathlib.Core.Bool.{Bool, true, false, cond, _||_, true≢false}
+use mathlib.Core.Bool.{Bool, true, false, _||_, true≢false}
 use mathlib.Core.List.{List, [], _∷_}
-use native.Mathlib.Decide.{decLt}
-use native.Mathlib.Nat.{zero-mul, suc-mul}
 use native.Mathlib.Omega.{arith}
 use lib.Dec.{ltb}
-use lib.ListN.{length, getD, drop, List·getD-eq-default, List·getD-append}
-use borrow.Author.Tests.{eq-eqb, ne-eqb, le-ltb}
-use Rattle.model.specs.declared.Verdict.{Verdict}
-use Rattle.model.specs.declared.Verdict.the-variants.{Accepted, Stopped, Refused}
-use Rattle.model.specs.Sides.{Side, host, card, at, Arrays, cells, length-of}
+use lib.ListN.{length, getD, drop, List·getD-append}
+use borrow.Author.Tests.{eq-eqb, le-ltb}
+use Rattle.model.specs.declared.Verdict.the-variants.{Accepted, Refused}
+use Rattle.model.specs.Sides.{Side, host, card, at, Arrays, cells}
 use Rattle.model.specs.Blocks.{size, Plan}
 use Rattle.model.specs.Runs.{Config, Ending, finished, stopped, out-of-choices, Ends, tally}
-use Rattle.model.specs.Demand.{latest-write, Made, moves}
+use Rattle.model.specs.Demand.{latest-write}
 use Rattle.model.proofs.Runs.{carried}
 use Rattle.model.proofs.Stamps.{tracked}
 use Rattle.model.proofs.Rows.{skips, pass}
-use Rattle.model.proofs.Demand.Adding.{copied-cells}
 use Rattle.model.proofs.Demand3.{moves-add}
 use Rattle.reading.specs.Bytes.{kind-of, table, arrays-of}
 use Rattle.reading.proofs.Tables.{length-table, getD-table}
@@ -30,55 +26,14 @@ use Rattle.format.specs.Plans.{plan-of, declared-plan-of}
 use Rattle.judge.specs.Judged.{judged}
 use Rattle.judge.proofs.Rules.{accepted-rules}
 use Rattle.files.specs.Expansions.{expansion-of, expansion-file}
-use Rattle.expand.specs.Expanded.{expand-answer}
 use Rattle.circle.proofs.Opens.{expansion-opens}
 use Rattle.circle.proofs.Runs.{file-demand3}
 use Rattle.circle.proofs.Writes.{judged-and-small}
 use Rattle.model.specs.declared.End.{End}
 use Rattle.run.specs.Running.{Lent, run-rows, memory, holding, end-of, Ran, RunsAs, Runs}
 use Rattle.standing.specs.Choices.{choices-of}
-use Rattle.circle.specs.Closing.{moved-cells, Adds, Roomy, DoneOrSpent, Kept, ExpansionRun}
-
--- one more declaration adds the cells of its array, if its need copied
-module _ (arrays : Arrays) (d : Made) (l : List Made) where
-  abbrev a : ℕ
-  a = d .declaration .array
-
-  not-yet : (n : ℕ) → n ≤ a → moved-cells arrays (d ∷ l) n ≡ moved-cells arrays l n
-  unfolding moved-cells
-  not-yet zero h = refl
-  not-yet (suc n) h = rw (ne-eqb a n (λ e. omega arith), not-yet n (omega arith))
-
-  own : (n : ℕ) → a < n → moved-cells arrays (d ∷ l) n ≡ moved-cells arrays l n + cond (d .copied) (length-of arrays a) 0
-  unfolding moved-cells
-  own zero h = absurd (omega arith)
-  own (suc n) h = elim (decLt a n) [
-    | yes m ↦ rw (ne-eqb a n (λ e. omega arith), own n m) (omega arith)
-    | no m ↦ let q : n ≡ a = omega arith in rw (q, eq-eqb a a refl, not-yet a (omega arith)) (go (d .copied))
-  ]
-    where
-      go : (c : Bool) → cond c (suc (moves a l)) (moves a l) * length-of arrays a + moved-cells arrays l a ≡ moves a l * length-of arrays a + moved-cells arrays l a + cond c (length-of arrays a) 0
-      go true = omega (arith, suc-mul (moves a l) (length-of arrays a))
-      go false = omega arith
-
-  one-more : moved-cells arrays (d ∷ l) (length arrays) ≡ moved-cells arrays l (length arrays) + cond (d .copied) (length-of arrays a) 0
-  one-more = elim (decLt a (length arrays)) [
-    | yes m ↦ own (length arrays) m
-    | no m ↦ let z : length arrays ≤ a = omega arith in rw (not-yet (length arrays) z, List·getD-eq-default arrays 0 z) (go (d .copied))
-  ]
-    where
-      go : (c : Bool) → moved-cells arrays l (length arrays) ≡ moved-cells arrays l (length arrays) + cond c 0 0
-      go true = omega arith
-      go false = omega arith
-
-none-moved : (arrays : Arrays) (n : ℕ) → 0 ≡ moved-cells arrays [] n
-unfolding moved-cells
-none-moved arrays zero = refl
-none-moved arrays (suc n) = omega (arith, none-moved arrays n, zero-mul (length-of arrays n))
-
-exchanged : (arrays : Arrays) (l : List Made) → copied-cells arrays l ≡ moved-cells arrays l (length arrays)
-exchanged arrays [] = none-moved arrays (length arrays)
-exchanged arrays (d ∷ l) = rw (exchanged arrays l) (sym (one-more arrays d l))
+use Rattle.circle.specs.Claims.{ClaimRuns}
+use Rattle.circle.specs.Closing.{Adds, Roomy, DoneOrSpent, Kept, ExpansionRun}
 
 -- a cell of a memory that holds the cells of a plan
 held-at : (n : ℕ) (held : ℕ → ℕ) (old : List ℕ) (c : ℕ) → c < n → getD (memory n held old) c 0 ≡ held c
@@ -94,7 +49,7 @@ module _ (f : List ℕ) (accepted : judged f ≡ Accepted) (small : size (expans
   unfolding declared-plan-of
   adds k h t =
       let m = moves-add (declared-plan-of f) (accepted-rules f .0 accepted .2) (choices-of choices) k h in
-      record { config = k; ends = h; moved = m .0; adds = t ∙ m .1 ∙ exchanged (arrays-of f) (m .0 .made) }
+      record { config = k; ends = h; moved = m .0; adds = t ∙ m .1 }
 
   same-arrays : arrays-of (expansion-file f) ≡ arrays-of f
   unfolding plan-of declared-plan-of
@@ -184,8 +139,7 @@ module _ (f : List ℕ) (accepted : judged f ≡ Accepted) (small : size (expans
       go false e false d r = ran r
 
 -- whatever the choices and the lent memories
-pub closed : (f out : List ℕ) → expand-answer f out ≡ Accepted →
-    (choices : List ℕ) (before after : Lent) (answer : End) → Runs (expansion-file f) choices before after answer → ExpansionRun f choices before after answer
+pub closed : ClaimRuns
 unfolding Runs
 closed f out e choices before after answer r =
     let g = judged-and-small f out e in

@@ -2,7 +2,7 @@
 pub mod Levels
 pub mod Fits
 pub mod Opens
-pub mod Runs
 pub mod Writes
+pub mod Runs
 -- no run of what the expander writes is stopped
 pub mod Closing

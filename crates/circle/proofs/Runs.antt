@@ -1,34 +1,31 @@
 -- Of a file that the judge accepts: demand 3 holds, and the check accepts its expansion and its expansion's file.
 use mathlib.Core.Path.{_≡_}
-use mathlib.Core.Bool.{Bool}
 use mathlib.Core.List.{List}
-use Prim.Native.Nat.{ℕ, _≤_}
+use Prim.Native.Nat.{ℕ}
 use Rattle.model.specs.declared.Verdict.the-variants.{Accepted}
-use Rattle.model.specs.Blocks.{size}
 use Rattle.model.specs.Check.{Answers, Stuck}
-use Rattle.model.specs.Judging.{Accepts}
-use Rattle.model.specs.Demand.{Demand3}
 use Rattle.model.proofs.Stuck.{accepted-iff}
 use Rattle.model.proofs.Demand3.{demand3}
-use Rattle.format.specs.Plans.{plan-of, declared-plan-of}
+use Rattle.format.specs.Plans.{declared-plan-of}
 use Rattle.judge.specs.Judged.{judged}
 use Rattle.judge.proofs.Rules.{accepted-rules}
-use Rattle.files.specs.Expansions.{expansion-of, expansion-file}
+use Rattle.files.specs.Expansions.{expansion-of}
+use Rattle.circle.specs.Claims.{ClaimFile3, ClaimOpens}
 use Rattle.circle.proofs.Opens.{expansion-opens}
+use Rattle.circle.proofs.Writes.{judged-and-small}
+
+pub file-demand3 : ClaimFile3
+file-demand3 f accepted = demand3 (declared-plan-of f) (accepted-rules f .0 accepted .2)
 
 module _ (f : List ℕ) (accepted : judged f ≡ Accepted) where
-  -- the judge accepts, so the rules hold for every pass
-  rules : Accepts (declared-plan-of f)
-  rules = accepted-rules f .0 accepted .2
-
-  pub file-demand3 : (cs : List Bool) → Demand3 (declared-plan-of f) cs
-  file-demand3 = demand3 (declared-plan-of f) rules
-
   unstuck : Stuck (expansion-of f) → ⊥
-  unstuck s = file-demand3 (s .choices) .unstuck (s .config) (s .number) (s .cell) (s .ends)
+  unstuck s = file-demand3 f accepted (s .choices) .unstuck (s .config) (s .number) (s .cell) (s .ends)
 
-  pub expansion-accepted : Answers (expansion-of f) Accepted
+  expansion-accepted : Answers (expansion-of f) Accepted
   expansion-accepted = accepted-iff (expansion-of f) .1 unstuck
 
-  pub expansion-file-accepted : size (expansion-of f .body) ≤ 1024 → Answers (plan-of (expansion-file f)) Accepted
-  expansion-file-accepted few = rw (expansion-opens f accepted few .2) expansion-accepted
+pub written-opens : ClaimOpens
+written-opens f out e =
+    let (accepted, few) = judged-and-small f out e in
+    let (opens, kind, same) = expansion-opens f accepted few in
+    (opens, kind, same, rw same (expansion-accepted f accepted))

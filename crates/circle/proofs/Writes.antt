@@ -1,21 +1,21 @@
 -- Of a file whose expansion is written: the judge accepts it, the expansion has few records enough, and the output begins with the expansion's file.
 use mathlib.Core.Path.{_≡_, ap, sym}
-use mathlib.Core.List.{List, _++_}
+use mathlib.Core.List.{List}
 use Prim.Native.Nat.{ℕ, _≤_}
-use lib.ListN.{length, drop}
 use borrow.Author.Tests.{ltb-false}
 use Rattle.model.specs.declared.Verdict.the-variants.{Accepted}
 use Rattle.model.specs.Blocks.{size}
 use Rattle.model.proofs.Rows.{skipped, passed}
 use Rattle.judge.specs.Judged.{judge-rows, judged}
-use Rattle.files.specs.Expansions.{expansion-of, expansion-file}
+use Rattle.files.specs.Expansions.{expansion-of}
 use Rattle.expand.specs.Expanded.{expand-answer, written, expanded}
+use Rattle.circle.specs.Claims.{ClaimWritten}
 
 module _ (f out : List ℕ) (e : expand-answer f out ≡ Accepted) where
   pub judged-and-small : (judged f ≡ Accepted) × (size (expansion-of f .body) ≤ 1024)
   unfolding expand-answer judged
   judged-and-small = let p = passed (judge-rows f) _ (sym e) in (sym (p .0), ltb-false _ _ (skipped _ _ _ _ (p .1) .0))
 
-  pub file-written : expanded f out ≡ expansion-file f ++ drop (length (expansion-file f)) out
-  unfolding expanded
-  file-written = ap (written f out) e
+pub file-written : ClaimWritten
+unfolding expanded
+file-written f out e = ap (written f out) e

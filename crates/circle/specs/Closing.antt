@@ -1,5 +1,5 @@
 -- The run of what the expander writes (document 01, demand 3 from bytes to bytes).
-use Prim.Native.Nat.{ℕ, zero, suc, _+_, _*_, _≤_, _<_}
+use Prim.Native.Nat.{ℕ, _≤_, _<_}
 use mathlib.Core.Path.{_≡_}
 use mathlib.Core.Logic.{_⊎_}
 use mathlib.Core.Bool.{true}
@@ -9,11 +9,11 @@ use Rattle.model.specs.declared.Verdict.{Verdict}
 use Rattle.model.specs.declared.Record.{Record}
 use Rattle.model.specs.declared.Cell.{Cell}
 use Rattle.model.specs.declared.Verdict.the-variants.{Accepted, Stopped, Refused}
-use Rattle.model.specs.Sides.{Side, at, Arrays, cells, length-of, Cells, within}
+use Rattle.model.specs.Sides.{Side, at, cells, Cells, within}
 use Rattle.model.specs.Effects.{read}
 use Rattle.model.specs.Blocks.{Block, act}
 use Rattle.model.specs.Runs.{Config, Ending, finished, Run, Ends}
-use Rattle.model.specs.Demand.{latest-write, Made, moves, Moves}
+use Rattle.model.specs.Demand.{latest-write, moved-cells, Moves}
 use Rattle.reading.specs.Bytes.{arrays-of}
 use Rattle.format.specs.Plans.{declared-plan-of}
 use Rattle.files.specs.Expansions.{expansion-of}
@@ -21,17 +21,12 @@ use Rattle.model.specs.declared.End.{End}
 use Rattle.run.specs.Running.{Lent, holding}
 use Rattle.standing.specs.Choices.{choices-of}
 
--- "An array moves at each need of it that copies": the cells that the moves of the arrays below n come to
-unfoldable pub moved-cells : Arrays → List Made → ℕ → ℕ
-moved-cells arrays made zero = 0
-moved-cells arrays made (suc n) = moves n made * length-of arrays n + moved-cells arrays made n
-
 -- of a run that is done: its moves are those of demand 3, and the tally counts the cells that they come to
 pub record Adds (f choices : List ℕ) (after : Lent) : Type 0 where
   pub config : Config
   pub ends : Ends (expansion-of f) (choices-of choices) config finished
   pub moved : Moves (declared-plan-of f) (choices-of choices) config
-  pub adds : after .tally .moved ≡ moved-cells (arrays-of f) (moved .made) (length (arrays-of f))
+  pub adds : after .tally .moved ≡ moved-cells (arrays-of f) (moved .made)
 
 -- numbers 19 and 20 do not hold: the memories are long enough, and the choices are at most 65,536
 abbrev pub Roomy : List ℕ → List ℕ → Lent → Type 0

@@ -1,2 +1,3 @@
 -- The run of what the expander writes.
 pub mod Closing
+pub mod Claims

@@ -2,6 +2,7 @@
 pub mod Files
 pub mod RoundTrip
 pub mod Octets
+pub mod Claims
 pub mod Examples
 pub mod Blocks
 pub mod Given

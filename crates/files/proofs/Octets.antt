@@ -18,14 +18,12 @@ use Rattle.sums.specs.Sums.{check-bytes}
 use Rattle.reading.specs.Bytes.{between}
 use Rattle.files.specs.Files.{u16-bytes, record-bytes, side-number, fields, action-fields, block-fields, size0, body0-fields, mode-kind, declaration-fields, Body, entry-bytes, joined, front, file, plain-file, pass-body, declared-file}
 use Rattle.files.specs.Bounds.{all, arrays-fit, cells-fit, action-fits, block-fits, body0-fits, plain-fits, pass-fits, passes-size, declared-fits}
+use Rattle.files.specs.Claims.{Bytes}
 use Rattle.files.proofs.Files.Places.{body-size}
 use Rattle.files.proofs.Files.Accepting.{within-bounds}
 use Rattle.files.proofs.Files.Records.{fields-count}
 use Rattle.files.proofs.Files.Calling.{fields-count0}
 use Rattle.files.proofs.Files.Declaring.{pass-count}
-
-abbrev pub Bytes : List ℕ → Type 0
-Bytes l = All (λ x. x < 256) l
 
 module _ {A : Type 0} (P : A → Type 0) where
   all-append : (l m : List A) → All P l → All P m → All P (l ++ m)

@@ -2,4 +2,5 @@
 pub mod Files
 pub mod Bounds
 pub mod Expansions
+pub mod Claims
 pub mod Inner

@@ -13,7 +13,7 @@ use Rattle.model.specs.declared.Verdict.the-variants.{Accepted}
 use Rattle.model.specs.Lists.{All}
 use Rattle.model.specs.Sides.{Side, length-of, first-of, Cells}
 use Rattle.model.specs.Effects.{copy, need, mark}
-use Rattle.model.specs.Judging.{R, W, RW, Declaration, permits, every, declared-once, Written, Rules, Accepts}
+use Rattle.model.specs.Judging.{R, W, RW, Declaration, permits, every, declared-once, Written, Rules}
 use Rattle.reading.specs.declared.Fields.{Fields}
 use Rattle.model.specs.Rows.{row, first, each}
 use Rattle.reading.specs.Bytes.{kind-of, body-count, arrays-of, records-in, declarations-in, first-record, bodies-at, fields-at, between}
@@ -25,7 +25,7 @@ use Rattle.model.proofs.Rows.{holds, held, skips, skipped, empty, pass, passed}
 use Rattle.passes.specs.declared.Extent.{Extent}
 use Rattle.permits.specs.Permits.{declared-before, record-rows}
 use Rattle.judge.specs.Judged.{all-written, w-rows, pass-rows, judge-rows, judged}
-use Rattle.judge.specs.Claims.{Claim15}
+use Rattle.judge.specs.Claims.{ClaimAccepts, Claim15}
 use Rattle.passes.specs.Inner.Passes.{PassAt}
 use Rattle.passes.proofs.Records.{declared-low, other-kind, others-walk, others-block}
 use Rattle.judge.proofs.Laws.Passes.{judged-passes}
@@ -150,7 +150,7 @@ module _ (f : List ℕ) (a : Accepted ≡ opening f) (k : kind-of f ≡ 1) (b : 
             (declarations .1 (ws-kept .1 (r .written))),
       )
 
-pub accepted-rules : (f : List ℕ) → (judged f ≡ Accepted) ↔ ((opening f ≡ Accepted) × (kind-of f ≡ 1) × Accepts (declared-plan-of f))
+pub accepted-rules : ClaimAccepts
 unfolding judged judge-rows opening declared-plan-of
 accepted-rules f =
     let n = body-count f - 1 in

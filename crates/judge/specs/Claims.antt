@@ -3,14 +3,19 @@ use Prim.Native.Nat.{ℕ, _+_}
 use mathlib.Core.Path.{_≡_}
 use mathlib.Core.Logic.{_↔_}
 use mathlib.Core.List.{List}
-use Rattle.model.specs.declared.Verdict.the-variants.{Refused}
+use Rattle.model.specs.declared.Verdict.the-variants.{Accepted, Refused}
 use Rattle.model.specs.Rows.{first}
-use Rattle.model.specs.Judging.{W, Leaves}
-use Rattle.reading.specs.Bytes.{arrays-of, first-record, fields-at}
-use Rattle.format.specs.Plans.{declaration-of, pass-at}
-use Rattle.judge.specs.Judged.{w-rows}
+use Rattle.model.specs.Judging.{W, Leaves, Accepts}
+use Rattle.reading.specs.Bytes.{kind-of, arrays-of, first-record, fields-at}
+use Rattle.format.specs.Opening.{opening}
+use Rattle.format.specs.Plans.{declared-plan-of, declaration-of, pass-at}
+use Rattle.judge.specs.Judged.{w-rows, judged}
 
--- "15 a W unmet (place: its declaration)", of declaration i of pass b: the row holds exactly if the declaration is a W and some way through the pass
+-- CLAIM (proofs/Rules, `accepted-rules`): the judge accepts exactly the files that open as declared plans whose passes all keep the rules
+abbrev pub ClaimAccepts : Type 0
+ClaimAccepts = (f : List ℕ) → (judged f ≡ Accepted) ↔ ((opening f ≡ Accepted) × (kind-of f ≡ 1) × Accepts (declared-plan-of f))
+
+-- CLAIM (proofs/Rules, `fifteen`): "15 a W unmet (place: its declaration)", of declaration i of pass b: the row holds exactly if the declaration is a W and some way through the pass
 -- leaves a cell of its array unwritten on its side
 abbrev pub Claim15 : Type 0
 Claim15 =

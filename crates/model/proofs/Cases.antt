@@ -1,9 +1,11 @@
--- The twelve cases: the trial, computed over their table, settles each row and gives its answer.
+-- The cases: the trial, computed over their tables, settles each row and gives its answer.
 use mathlib.Core.Path.{_≡_, refl}
 use mathlib.Core.Bool.{Bool, true, _&&_}
 use mathlib.Core.List.{List, [], _∷_, map}
 use Rattle.model.specs.Sides.{first-of, array-of, within}
-use Rattle.model.specs.Cases.{Case, plan-of, twelve, AllAnswer}
+use Rattle.model.specs.Runs.{here, onward}
+use Rattle.model.specs.Cases.{Case, plan-of, twelve, AllAnswer, StopsFirstAt2, nearly}
+use Rattle.model.specs.Claims.{ClaimCases}
 use Rattle.model.proofs.Booleans.{and-out}
 use Rattle.model.proofs.Bits.{equal}
 use Rattle.model.proofs.Trial.{has, has-all, unmet, lower, tried, settles, tried-answers}
@@ -19,6 +21,10 @@ all-answer (row ∷ rows) s e =
     let q : tried (plan-of row) ≡ row .answer = cc in
     (rw q at (tried-answers (plan-of row) (p .0)), all-answer rows (p .1) (cc))
 
-pub twelve-answer : AllAnswer twelve
+stops-first : StopsFirstAt2
+unfolding within array-of first-of
+stops-first cs = (_, record { run = onward (onward here refl) refl; last = refl })
+
+pub cases : ClaimCases
 unfolding has has-all unmet lower equal within array-of first-of
-twelve-answer = all-answer twelve refl refl
+cases = (all-answer twelve refl refl, stops-first, all-answer nearly refl refl)

@@ -13,10 +13,10 @@ use Rattle.model.specs.declared.Verdict.{Verdict}
 use Rattle.model.specs.declared.Verdict.the-variants.{Accepted, Stopped, Refused}
 use Rattle.model.specs.Sides.{cells}
 use Rattle.model.specs.Blocks.{Plan}
-use Rattle.model.specs.Check.{Answers, Stuck}
+use Rattle.model.specs.Check.{Answers}
 use Rattle.model.specs.Verdicts.{stop}
 use Rattle.model.proofs.Through.{StopsAt, sound, complete}
-use Rattle.model.proofs.Stuck.{accepted-iff}
+use Rattle.model.specs.Claims.{ClaimAnswer}
 
 abbrev pub AtMost : Option ℕ → ℕ → Type 0
 AtMost none r = ⊥
@@ -107,8 +107,7 @@ module _ (plan : Plan) where
   )
   exact (Refused number place) = (λ h. h, λ h. h)
 
-  -- at most one answer is
-  pub unique : (v w : Verdict) → Answers plan v → Answers plan w → v ≡ w
+  unique : (v w : Verdict) → Answers plan v → Answers plan w → v ≡ w
   unique Accepted Accepted h k = refl
   unique Accepted (Stopped r c) h k = absurd (h (r .0) (c .0) (k .0))
   unique Accepted (Refused number place) h k = absurd k
@@ -120,6 +119,5 @@ module _ (plan : Plan) where
   unique (Stopped r c) (Refused number place) h k = absurd k
   unique (Refused number place) w h k = absurd h
 
-  -- a plan is accepted exactly if no run gets stuck
-  pub accepts : Answers plan Accepted ↔ (Stuck plan → ⊥)
-  accepts = accepted-iff plan
+pub one-answer : ClaimAnswer
+one-answer = unique

@@ -8,10 +8,11 @@ use borrow.Author.Tests.{eqb-true}
 use Rattle.model.specs.Sides.{Side, Stamp, never, at, equals, cells, Cells, within}
 use Rattle.model.specs.Effects.{Action, read}
 use Rattle.model.specs.Blocks.{Block, act}
-use Rattle.model.specs.Runs.{Config, finished, stopped, carry, lowest-unmet, stop-or, step, Run, Ends, tally}
+use Rattle.model.specs.Runs.{Config, stopped, carry, lowest-unmet, stop-or, step, Run, Ends}
 use Rattle.model.specs.Judging.{DeclaredPlan, Accepts}
 use Rattle.model.specs.Expanding.{expansion}
-use Rattle.model.specs.Demand.{latest-write, Moves, Demand3}
+use Rattle.model.specs.Demand.{latest-write, Moves}
+use Rattle.model.specs.Claims.{Claim3, ClaimMoved}
 use Rattle.model.proofs.Runs.{config, carried}
 use Rattle.model.proofs.Stamps.{tracked}
 use Rattle.model.proofs.Unmet.{all-met}
@@ -20,7 +21,7 @@ use Rattle.model.proofs.Demand.Stages.{walked, declares-all, asks-all}
 use Rattle.model.proofs.Demand.Coherence.{coherent}
 use Rattle.model.proofs.Demand.Moves.{moves-once}
 use Rattle.model.proofs.Demand.Following.{Finished, follows, at-end}
-use Rattle.model.proofs.Demand.Adding.{copied-cells, adds-all}
+use Rattle.model.proofs.Demand.Adding.{adds-all}
 
 equal-stamp : (x : Stamp) (k : ℕ) → equals x k ≡ true → x ≡ at k
 equal-stamp never k e = absurd (false≢true e)
@@ -66,7 +67,7 @@ module _ (plan : DeclaredPlan) (cs : List Bool) (ok : Accepts plan) where
     intervals = λ a. moves-once a plan cs ok (f .stages);
   }
 
-pub demand3 : (plan : DeclaredPlan) → Accepts plan → (cs : List Bool) → Demand3 plan cs
+pub demand3 : Claim3
 demand3 plan ok cs = record {
   unstuck = unstuck plan cs ok;
   reads = reads plan cs ok;
@@ -74,8 +75,6 @@ demand3 plan ok cs = record {
   moved = λ k e. moved plan cs ok (at-end plan cs ok e);
 }
 
--- the moves of a finished run, and that the cells moved are theirs
-pub moves-add : (plan : DeclaredPlan) → Accepts plan → (cs : List Bool) (k : Config) → Ends (expansion plan) cs k finished →
-    (m : Moves plan cs k) × (tally (plan .arrays) (k .history) .moved ≡ copied-cells (plan .arrays) (m .made))
+pub moves-add : ClaimMoved
 unfolding moved
 moves-add plan ok cs k e = let f = at-end plan cs ok e in (moved plan cs ok f, adds-all plan cs ok (f .stages))

@@ -8,6 +8,7 @@ use mathlib.Core.Option.{Option, none, some}
 use Rattle.model.specs.Effects.{Action, State, start, effect}
 use Rattle.model.specs.Blocks.{Block, done, act, branch, loop, _then_, Plan}
 use Rattle.model.specs.Runs.{Event, Config, Ending, finished, stopped, out-of-choices, Step, next, ends, stop-or, lowest-unmet, step, Reached, here, onward, Run, Ends}
+use Rattle.model.specs.Claims.{ClaimEnding}
 use Rattle.model.proofs.Runs.{config, event, next-same}
 
 -- it ends
@@ -98,5 +99,8 @@ module _ (one : Config → Step) where
       same : j ≡ k
       same = go (compare g h)
 
-pub ends-once : {plan : Plan} {cs : List Bool} {j k : Config} {d e : Ending} → Ends plan cs j d → Ends plan cs k e → (j ≡ k) × (d ≡ e)
+ends-once : {plan : Plan} {cs : List Bool} {j k : Config} {d e : Ending} → Ends plan cs j d → Ends plan cs k e → (j ≡ k) × (d ≡ e)
 ends-once {plan} g h = one-end (step (plan .arrays)) (g .run) (g .last) (h .run) (h .last)
+
+pub ends-in-one-way : ClaimEnding
+ends-in-one-way plan cs = let e = run-ends plan cs in (e .last, e .ending, e .ends, λ j d h. ends-once h (e .ends))

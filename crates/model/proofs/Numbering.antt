@@ -8,6 +8,7 @@ use native.Mathlib.Omega.{arith}
 use lib.Dec.{leb, ltb, eqb}
 use borrow.Author.Tests.{ltb-true, ltb-false, leb-true, eqb-true, eq-eqb}
 use Rattle.model.specs.Sides.{Arrays, cells, length-of, first-of, array-of, Cells, within}
+use Rattle.model.specs.Claims.{ClaimCells}
 use Rattle.model.proofs.Booleans.{and-out}
 
 -- a cell is one of its array's cells
@@ -36,6 +37,9 @@ array-from (n ∷ arrays) (suc a) c h k = go (ltb c n) refl (array-from arrays a
     go : (b : Bool) → ltb c n ≡ b → (first-of arrays a ≤ c - n → c - n < first-of arrays a + length-of arrays a → array-of arrays (c - n) ≡ a) → cond b 0 (suc (array-of arrays (c - n))) ≡ suc a
     go true e ih = let m = ltb-true c n e in absurd (omega arith)
     go false e ih = let m = ltb-false c n e in ap suc (ih (omega arith) (omega arith))
+
+pub own-cells : ClaimCells
+own-cells arrays a c h = (λ e. rw e at (in-array arrays c h), λ i. array-from arrays a c (i .0) (i .1))
 
 -- an array ends within the cells
 pub array-ends : (arrays : Arrays) (a : ℕ) → first-of arrays a + length-of arrays a ≤ cells arrays

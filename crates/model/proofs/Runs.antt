@@ -9,6 +9,7 @@ use Rattle.model.specs.Effects.{Action, State, start, effect}
 use Rattle.model.specs.Blocks.{Block, done, act, branch, loop, Plan}
 use Rattle.model.specs.Runs.{Event, copies, Config, next, carry, stop-or, lowest-unmet, step, here, onward, Run}
 use Rattle.model.specs.Check.{Carried}
+use Rattle.model.specs.Claims.{ClaimCarried}
 
 abbrev pub config : Block → List Bool → State → List Event → Config
 config b cs σ l = record { left = b; choices = cs; state = σ; history = l }
@@ -34,6 +35,9 @@ module _ (arrays : Arrays) where
 pub carried : {plan : Plan} {cs : List Bool} {k : Config} → Run plan cs k → Carried plan cs k
 carried here = here
 carried {plan} (onward {k = k} {k′} h e) = onward (carried h) (next-carry (plan .arrays) (k .left) (k .choices) (k .state) (k .history) k′ e)
+
+pub proper-carried : ClaimCarried
+proper-carried plan cs k = carried
 
 -- what holds at the start and is kept by every executed record
 module _ (plan : Plan) (P : State → List Event → Type 0) (first : P (start (plan .arrays)) [])

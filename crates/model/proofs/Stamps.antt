@@ -11,11 +11,12 @@ use borrow.Author.Tests.{eqb-true}
 use Rattle.model.specs.Sides.{Side, host, card, other, is, Stamp, never, at, equals, Arrays, array-of, within}
 use Rattle.model.specs.Effects.{Action, read, write, copy, need, mark, State, start, stamped, copied, flagged, effect}
 use Rattle.model.specs.Blocks.{Plan}
-use Rattle.model.specs.Runs.{Event, Config, Run, tally}
+use Rattle.model.specs.Runs.{Event, Config, tally}
 use Rattle.model.specs.Check.{Carried}
 use Rattle.model.specs.Demand.{latest-write}
+use Rattle.model.specs.Claims.{ClaimLatest, ClaimFresh}
 use Rattle.model.proofs.Booleans.{false-of}
-use Rattle.model.proofs.Runs.{event, along, carried}
+use Rattle.model.proofs.Runs.{event, along}
 
 -- a stamp that is not ahead of w writes
 abbrev pub Old : ℕ → Stamp → Type 0
@@ -80,9 +81,8 @@ past-effect arrays (mark s a) σ p = past-flagged _ σ p
 pub past : {plan : Plan} {cs : List Bool} {k : Config} → Carried plan cs k → Past (k .state)
 past {plan} h = along plan (λ σ l. Past σ) (past-start (plan .arrays)) (λ x σ l. past-effect (plan .arrays) x σ) h
 
--- the stamp of the next write equals no copy
-pub fresh : {plan : Plan} {cs : List Bool} {k : Config} → Run plan cs k → (s : Side) (c : ℕ) → k .state .held s c ≢ at (suc (k .state .writes))
-fresh {k = k} h s c e = go (k .state .held s c) (past (carried h) .held s c) e
+pub fresh : ClaimFresh
+fresh plan cs k h s c e = go (k .state .held s c) (past h .held s c) e
   where
     go : (x : Stamp) → Old (k .state .writes) x → x ≢ at (suc (k .state .writes))
     go never o q = let z : _≡_ {A = ℕ} 0 1 = cc in omega arith
@@ -106,3 +106,6 @@ tracked-effect arrays (mark s a) σ l t = record { writes = t .writes; latest = 
 
 pub tracked : {plan : Plan} {cs : List Bool} {k : Config} → Carried plan cs k → Tracked (plan .arrays) (k .state) (k .history)
 tracked {plan} h = along plan (Tracked (plan .arrays)) (record { writes = refl; latest = λ c. refl }) (tracked-effect (plan .arrays)) h
+
+pub latest-tracked : ClaimLatest
+latest-tracked plan cs k h = tracked h .latest

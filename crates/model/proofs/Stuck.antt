@@ -1,17 +1,17 @@
 -- A carried-on run stops somewhere exactly if a run gets stuck.
 use Prim.Native.Nat.{ℕ}
 use mathlib.Core.Path.{_≡_, refl}
-use mathlib.Core.Logic.{_⊎_, inl, inr, _↔_}
+use mathlib.Core.Logic.{_⊎_, inl, inr}
 use mathlib.Core.List.{List, [], _∷_}
 use mathlib.Core.Bool.{Bool, true≢false}
 use mathlib.Core.Option.{Option, none, some}
 use native.Mathlib.Omega.{arith}
-use Rattle.model.specs.declared.Verdict.the-variants.{Accepted}
 use Rattle.model.specs.Sides.{cells}
 use Rattle.model.specs.Effects.{State}
 use Rattle.model.specs.Blocks.{Block, done, act, branch, loop, Plan}
 use Rattle.model.specs.Runs.{Event, Config, next, ends, stopped, carry, lowest-unmet, stop-or, step, here, onward, Run}
-use Rattle.model.specs.Check.{Carried, MayStop, Answers, Stuck}
+use Rattle.model.specs.Check.{Carried, MayStop, Stuck}
+use Rattle.model.specs.Claims.{ClaimAccepted}
 use Rattle.model.proofs.Unmet.{unmet-is, unmet-some}
 use Rattle.model.proofs.Runs.{config, carried}
 
@@ -56,5 +56,5 @@ module _ (plan : Plan) where
   stuck-stops : (s : Stuck plan) → MayStop plan (s .number) (s .cell)
   stuck-stops s = let k = s .config in stuck-on (k .left) (k .choices) (k .state) (k .history) (s .number) (s .cell) (carried (s .ends .run)) (s .ends .last)
 
-  pub accepted-iff : Answers plan Accepted ↔ (Stuck plan → ⊥)
-  accepted-iff = (λ h s. h (s .number) (s .cell) (stuck-stops s), λ h r c m. h (stops-stuck r c m))
+pub accepted-iff : ClaimAccepted
+accepted-iff plan = (λ h s. h (s .number) (s .cell) (stuck-stops plan s), λ h r c m. h (stops-stuck plan r c m))

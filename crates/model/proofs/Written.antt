@@ -1,7 +1,7 @@
 -- The test `always-writes` of one cell says exactly that every way through a block writes it.
 use Prim.Native.Nat.{ℕ}
 use mathlib.Core.Path.{_≡_, refl, sym, _∙_}
-use mathlib.Core.Logic.{_⊎_, inl, inr, _↔_}
+use mathlib.Core.Logic.{_⊎_, inl, inr}
 use mathlib.Core.List.{List, [], _∷_, _++_}
 use mathlib.Core.Bool.{Bool, true, false, cond, _&&_, _||_, false≢true, true≢false}
 use Rattle.model.specs.Lists.{any}
@@ -9,6 +9,7 @@ use Rattle.model.specs.Sides.{Side, Arrays}
 use Rattle.model.specs.Effects.{Action}
 use Rattle.model.specs.Blocks.{Block, act, branch, loop}
 use Rattle.model.specs.Judging.{Way, writes-cell, always-writes}
+use Rattle.model.specs.Claims.{ClaimWritten}
 use Rattle.model.proofs.Booleans.{or-out, or-left, or-right, or-none, and-out, and-none, any-append}
 
 module _ (arrays : Arrays) (s : Side) (c : ℕ) where
@@ -71,10 +72,9 @@ module _ (arrays : Arrays) (s : Side) (c : ℕ) where
       let i = unwritten b ds e in
       record { choices = false ∷ i .choices; records = i .records; way = Way.leave (i .way); none = i .none }
 
-  pub always-written : (b : Block) →
-      (always-writes arrays s c b ≡ true) ↔ ((cs ds : List Bool) (w : List Action) → Way b cs ds w → any (writes-cell arrays s c) w ≡ true)
-  always-written b = (λ e cs ds w h. way-writes h e, λ f. go f (always b) refl)
-    where
-      go : ((cs ds : List Bool) (w : List Action) → Way b cs ds w → any writes w ≡ true) → (z : Bool) → always b ≡ z → always b ≡ true
-      go f true e = e
-      go f false e = let i = unwritten b [] e in absurd (true≢false (sym (f (i .choices) [] (i .records) (i .way)) ∙ i .none))
+  written-back : (b : Block) → ((cs ds : List Bool) (w : List Action) → Way b cs ds w → any writes w ≡ true) → (z : Bool) → always b ≡ z → always b ≡ true
+  written-back b f true e = e
+  written-back b f false e = let i = unwritten b [] e in absurd (true≢false (sym (f (i .choices) [] (i .records) (i .way)) ∙ i .none))
+
+pub always-written : ClaimWritten
+always-written arrays s c b = (λ e cs ds w h. way-writes arrays s c h e, λ f. written-back arrays s c b f (always-writes arrays s c b) refl)

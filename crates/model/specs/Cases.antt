@@ -1,5 +1,6 @@
--- The twelve cases (document 01, 'Twelve cases, one array of one cell unless said'), in one table.
+-- The twelve cases (document 01, 'Twelve cases, one array of one cell unless said'), in one table, and the plan of 'Checkers that would nearly do'.
 use Prim.Native.Nat.{ℕ}
+use mathlib.Core.Bool.{Bool, true}
 use mathlib.Core.List.{List, [], _∷_}
 use Rattle.model.specs.declared.Verdict.{Verdict}
 use Rattle.model.specs.declared.Verdict.the-variants.{Accepted}
@@ -7,6 +8,7 @@ use Rattle.model.specs.Lists.{All}
 use Rattle.model.specs.Sides.{host, card, Cells}
 use Rattle.model.specs.Effects.{Action, read, write, copy, need, mark}
 use Rattle.model.specs.Blocks.{Block, done, act, branch, loop, numbered, Plan}
+use Rattle.model.specs.Runs.{Config, stopped, Ends}
 use Rattle.model.specs.Verdicts.{stop}
 use Rattle.model.specs.Check.{Answers}
 
@@ -33,7 +35,11 @@ infixr 60 _⨾_
 abbrev pub _⨾_ : Action → Block → Block
 x ⨾ b = act 0 x b
 
--- "These twelve stand in one proved table", with the plan of 'Checkers that would nearly do' as a last row
+-- "10 loop (read host, read card, write card): a run proper that takes a turn stops first at 2, the answer is 1."
+abbrev pub case10 : Case
+case10 = case 1 (loop 0 (read host (first 1) ⨾ read card (first 1) ⨾ write card (first 1) ⨾ done) done) (stop 1 0)
+
+-- "These twelve stand in one proved table"
 abbrev pub twelve : List Case
 twelve =
     -- "1 empty body: accepted."
@@ -54,15 +60,21 @@ twelve =
     ∷ case 1 (loop 0 (read host (first 1) ⨾ write card (first 1) ⨾ done) done) (stop 1 0)
     -- "9 two cells: write card cell 0, read host both: record 1, cell 0."
     ∷ case 2 (write card (first 1) ⨾ read host (first 2) ⨾ done) (stop 1 0)
-    -- "10 loop (read host, read card, write card): .. the answer is 1."
-    ∷ case 1 (loop 0 (read host (first 1) ⨾ read card (first 1) ⨾ write card (first 1) ⨾ done) done) (stop 1 0)
+    -- 10, as above
+    ∷ case10
     -- "11 need card, write host, need card, read card: stop 3."
     ∷ case 1 (need card 0 ⨾ write host (first 1) ⨾ need card 0 ⨾ read card (first 1) ⨾ done) (stop 3 0)
     -- "12 mark card, need host: stop 1."
     ∷ case 1 (mark card 0 ⨾ need host 0 ⨾ done) (stop 1 0)
-    -- 'Checkers that would nearly do': "copy to card, write host, need card, read card is accepted."
-    ∷ case 1 (copy card (first 1) ⨾ write host (first 1) ⨾ need card 0 ⨾ read card (first 1) ⨾ done) Accepted
     ∷ []
+
+-- of case 10: "a run proper that takes a turn stops first at 2"
+abbrev pub StopsFirstAt2 : Type 0
+StopsFirstAt2 = (cs : List Bool) → (k : Config) × Ends (plan-of case10) (true ∷ cs) k (stopped 2 0)
+
+-- 'Checkers that would nearly do': "copy to card, write host, need card, read card is accepted."
+abbrev pub nearly : List Case
+nearly = case 1 (copy card (first 1) ⨾ write host (first 1) ⨾ need card 0 ⨾ read card (first 1) ⨾ done) Accepted ∷ []
 
 -- every row's answer is the check's
 abbrev pub AllAnswer : List Case → Type 0

@@ -1,11 +1,11 @@
 -- Demand 3 (document 01, 'The words of demand 3').
-use Prim.Native.Nat.{ℕ, suc, _<_}
+use Prim.Native.Nat.{ℕ, suc, _+_, _<_}
 use mathlib.Core.Path.{_≡_}
 use mathlib.Core.List.{List, [], _∷_, _++_, map, reverseAux as onto}
 use mathlib.Core.Bool.{Bool, true, false, cond, _&&_}
 use lib.Dec.{eqb}
 use Rattle.model.specs.Lists.{any}
-use Rattle.model.specs.Sides.{Side, host, other, is, at, Arrays, cells, Cells, within}
+use Rattle.model.specs.Sides.{Side, host, other, is, at, Arrays, cells, length-of, Cells, within}
 use Rattle.model.specs.Effects.{Action, read, write, copy, need, mark}
 use Rattle.model.specs.Blocks.{Block, act}
 use Rattle.model.specs.Runs.{Event, Config, finished, stopped, Run, Ends, tally}
@@ -87,6 +87,11 @@ declares-read a s d = eqb (d .declaration .array) a && (reads (d .declaration .m
 abbrev pub moves : ℕ → List Made → ℕ
 moves a [] = 0
 moves a (d ∷ l) = cond (eqb (d .declaration .array) a && d .copied) (suc (moves a l)) (moves a l)
+
+-- "A copy moves all its cells, a need that copies the whole array": the cells that these declarations moved
+abbrev pub moved-cells : Arrays → List Made → ℕ
+moved-cells arrays [] = 0
+moved-cells arrays (d ∷ l) = moved-cells arrays l + cond (d .copied) (length-of arrays (d .declaration .array)) 0
 
 -- an interval of array a begins after these declarations: with the last of them, a declared write on side w, or with the start, on the host
 pub data Opens (a : ℕ) : List Made → Side → Type 0 where

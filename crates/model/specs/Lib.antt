@@ -11,3 +11,4 @@ pub mod Expanding
 pub mod Verdicts
 pub mod Demand
 pub mod Cases
+pub mod Claims

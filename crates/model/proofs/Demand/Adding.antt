@@ -1,25 +1,16 @@
 -- The cells that a run moves are those of the arrays whose needs copied.
-use Prim.Native.Nat.{ℕ, _+_}
+use Prim.Native.Nat.{_+_}
 use mathlib.Core.Path.{_≡_, refl, _∙_}
-use mathlib.Core.List.{List, [], _∷_}
+use mathlib.Core.List.{List, _∷_}
 use mathlib.Core.Bool.{Bool, true, cond, false≢true}
 use native.Mathlib.Omega.{arith}
 use Rattle.model.specs.Sides.{Arrays, length-of}
 use Rattle.model.specs.Effects.{Action, read, write, copy, need, mark, State}
 use Rattle.model.specs.Runs.{Event, tally}
 use Rattle.model.specs.Judging.{Declaration, DeclaredPlan, permits, Accepts}
-use Rattle.model.specs.Demand.{Made}
+use Rattle.model.specs.Demand.{moved-cells}
 use Rattle.model.proofs.Runs.{event}
 use Rattle.model.proofs.Demand.Stages.{Stage, in-body, declaring, marking, Progress, Stages, begins, calls, enters, needs, marks, needs-first, marks-then, acts, branches, loops, branches0, loops0, judged, permitted-now}
-
--- the cells of an array whose need copied
-abbrev cells-if : Arrays → Bool → ℕ → ℕ
-cells-if arrays copied a = cond copied (length-of arrays a) 0
-
--- those of all declarations made
-abbrev pub copied-cells : Arrays → List Made → ℕ
-copied-cells arrays [] = 0
-copied-cells arrays (d ∷ l) = copied-cells arrays l + cells-if arrays (d .copied) (d .declaration .array)
 
 -- a record of a pass moves nothing
 still : (arrays : Arrays) (ds : List Declaration) (x : Action) (σ : State) (l : List Event) → permits ds x ≡ true → tally arrays (event x σ ∷ l) .moved ≡ tally arrays l .moved
@@ -35,9 +26,9 @@ module _ (plan : DeclaredPlan) (cs : List Bool) (ok : Accepts plan) where
 
   -- the need of an RW moves the array before the RW counts as made
   abbrev Added : Stage → Progress → Type 0
-  Added (in-body p b t) n = tally arrays (n .history) .moved ≡ copied-cells arrays (n .made)
-  Added (declaring p ds t) n = tally arrays (n .history) .moved ≡ copied-cells arrays (n .made)
-  Added (marking p s a m ds t) n = tally arrays (n .history) .moved ≡ copied-cells arrays (n .made) + cells-if arrays m a
+  Added (in-body p b t) n = tally arrays (n .history) .moved ≡ moved-cells arrays (n .made)
+  Added (declaring p ds t) n = tally arrays (n .history) .moved ≡ moved-cells arrays (n .made)
+  Added (marking p s a m ds t) n = tally arrays (n .history) .moved ≡ moved-cells arrays (n .made) + cond m (length-of arrays a) 0
 
   pub adds-all : {k : Stage} {ch : List Bool} {n : Progress} → Stages plan cs k ch n → Added k n
   adds-all begins = refl

@@ -1,0 +1,67 @@
+-- What is proved of these definitions: each theorem that a reader relies on, by name, with the place of its proof.
+use Prim.Native.Nat.{ℕ, suc, _+_, _≤_, _<_}
+use mathlib.Core.Path.{_≡_}
+use mathlib.Core.Logic.{_↔_}
+use mathlib.Core.Bool.{Bool, true}
+use mathlib.Core.List.{List}
+use Rattle.model.specs.declared.Verdict.{Verdict}
+use Rattle.model.specs.declared.Verdict.the-variants.{Accepted}
+use Rattle.model.specs.Lists.{any}
+use Rattle.model.specs.Sides.{Side, at, Arrays, cells, length-of, first-of, array-of}
+use Rattle.model.specs.Effects.{Action}
+use Rattle.model.specs.Blocks.{Block, Plan}
+use Rattle.model.specs.Runs.{Config, Ending, finished, Run, Ends, tally}
+use Rattle.model.specs.Check.{Carried, Answers, Stuck}
+use Rattle.model.specs.Judging.{DeclaredPlan, Way, writes-cell, always-writes, Accepts}
+use Rattle.model.specs.Expanding.{expansion}
+use Rattle.model.specs.Demand.{latest-write, moved-cells, Moves, Demand3}
+use Rattle.model.specs.Cases.{twelve, AllAnswer, StopsFirstAt2, nearly}
+
+-- CLAIM (proofs/Numbering, `own-cells`): "Cells are numbered from 0 through all arrays in order": array a has those from its first on, as many as its length
+abbrev pub ClaimCells : Type 0
+ClaimCells = (arrays : Arrays) (a c : ℕ) → c < cells arrays →
+    (array-of arrays c ≡ a) ↔ ((first-of arrays a ≤ c) × (c < first-of arrays a + length-of arrays a))
+
+-- CLAIM (proofs/Stamps, `latest-tracked`): in every carried-on run a cell's latest stamp is that of its latest write
+abbrev pub ClaimLatest : Type 0
+ClaimLatest = (plan : Plan) (cs : List Bool) (k : Config) → Carried plan cs k → (c : ℕ) → k .state .latest c ≡ latest-write (plan .arrays) (k .history) c
+
+-- CLAIM (proofs/Stamps, `fresh`): and no copy has the stamp of the next write
+abbrev pub ClaimFresh : Type 0
+ClaimFresh = (plan : Plan) (cs : List Bool) (k : Config) → Carried plan cs k → (s : Side) (c : ℕ) → k .state .held s c ≡ at (suc (k .state .writes)) → ⊥
+
+-- CLAIM (proofs/Runs, `proper-carried`): what a run comes to, the carried-on run comes to
+abbrev pub ClaimCarried : Type 0
+ClaimCarried = (plan : Plan) (cs : List Bool) (k : Config) → Run plan cs k → Carried plan cs k
+
+-- CLAIM (proofs/Endings, `ends-in-one-way`): every run ends, in one way
+abbrev pub ClaimEnding : Type 0
+ClaimEnding = (plan : Plan) (cs : List Bool) →
+    (k : Config) × (e : Ending) × Ends plan cs k e × ((j : Config) (d : Ending) → Ends plan cs j d → (j ≡ k) × (d ≡ e))
+
+-- CLAIM (proofs/Check, `one-answer`): a plan has at most one answer of the check (that it has one is the promise of `check`)
+abbrev pub ClaimAnswer : Type 0
+ClaimAnswer = (plan : Plan) (v w : Verdict) → Answers plan v → Answers plan w → v ≡ w
+
+-- CLAIM (proofs/Stuck, `accepted-iff`): a plan is accepted exactly if no run of it gets stuck
+abbrev pub ClaimAccepted : Type 0
+ClaimAccepted = (plan : Plan) → Answers plan Accepted ↔ (Stuck plan → ⊥)
+
+-- CLAIM (proofs/Cases, `cases`): the twelve cases have these answers, case 10 has its run proper, and the plan of 'Checkers that would nearly do' is accepted
+abbrev pub ClaimCases : Type 0
+ClaimCases = AllAnswer twelve × StopsFirstAt2 × AllAnswer nearly
+
+-- CLAIM (proofs/Written, `always-written`): the test of a W is exact: it passes exactly if every way through the block writes the cell
+abbrev pub ClaimWritten : Type 0
+ClaimWritten = (arrays : Arrays) (s : Side) (c : ℕ) (b : Block) →
+    (always-writes arrays s c b ≡ true)
+    ↔ ((cs ds : List Bool) (w : List Action) → Way b cs ds w → any (writes-cell arrays s c) w ≡ true)
+
+-- CLAIM (proofs/Demand3, `demand3`): demand 3 holds of every accepted declared plan and every list of choices
+abbrev pub Claim3 : Type 0
+Claim3 = (plan : DeclaredPlan) → Accepts plan → (cs : List Bool) → Demand3 plan cs
+
+-- CLAIM (proofs/Demand3, `moves-add`): the cells moved by a finished run are those that the moves of its arrays come to
+abbrev pub ClaimMoved : Type 0
+ClaimMoved = (plan : DeclaredPlan) → Accepts plan → (cs : List Bool) (k : Config) → Ends (expansion plan) cs k finished →
+    (m : Moves plan cs k) × (tally (plan .arrays) (k .history) .moved ≡ moved-cells (plan .arrays) (m .made))
