@@ -8,7 +8,7 @@ use native.Mathlib.Omega.{arith}
 use lib.Dec.{eqb}
 use lib.ListN.{length, getD}
 use borrow.Author.Tests.{eq-eqb, ne-eqb}
-use Rattle.model.specs.Sides.{Side, host, card, other, Arrays, Cells}
+use Rattle.model.specs.Sides.{Side, host, card, other, Layout, Cells}
 use Rattle.model.specs.Effects.{Action, read, write, copy, need, mark, State}
 use Rattle.model.specs.Runs.{Event, lowest-unmet}
 use Rattle.reading.specs.declared.Fields.{Fields}
@@ -61,9 +61,9 @@ both-seen b a (Unmet c) (Done s) m = absurd m
 both-seen b a (Unmet c) (Unmet c′) m = m
 
 -- the same state seen from the other side
-seen-from : (arrays : Arrays) (t u : Side) (s : Stored) (own others latest : List ℕ) (σ : State) (l : List Event) → other t ≡ u → other u ≡ t →
-    Holds arrays t s own others latest σ l → Holds arrays u (swapped s) others own latest σ l
-seen-from arrays t u s own others latest σ l e f h = record {
+seen-from : (layout : Layout) (t u : Side) (s : Stored) (own others latest : List ℕ) (σ : State) (l : List Event) → other t ≡ u → other u ≡ t →
+    Holds layout t s own others latest σ l → Holds layout u (swapped s) others own latest σ l
+seen-from layout t u s own others latest σ l e f h = record {
   own-room = h .others-room;
   others-room = h .own-room;
   latest-room = h .latest-room;
@@ -81,63 +81,63 @@ seen-from arrays t u s own others latest σ l e f h = record {
 }
 
 -- what a record did, seen from its side, is what it did, where the other side is as it was
-module _ (arrays : Arrays) (y : Action) (σ : State) (l : List Event) (hs cs latest : List ℕ) where
+module _ (layout : Layout) (y : Action) (σ : State) (l : List Event) (hs cs latest : List ℕ) where
   acts-on : (b : Bool) (r : Acted) (hs′ cs′ latest′ : List ℕ) → of-side b cs′ hs′ ≡ of-side b cs hs →
-      FollowsAs arrays y (side-on b) σ l (of-side b hs cs) (of-side b cs hs) latest (seen-as b r) (of-side b hs′ cs′) latest′ → ActsAs arrays y σ l hs cs latest r hs′ cs′ latest′
-  acts-on true (Done s) hs′ cs′ latest′ q (e, h) = (e, rw q (seen-from arrays card host (swapped s) cs′ hs latest′ _ _ refl refl h))
+      FollowsAs layout y (side-on b) σ l (of-side b hs cs) (of-side b cs hs) latest (seen-as b r) (of-side b hs′ cs′) latest′ → ActsAs layout y σ l hs cs latest r hs′ cs′ latest′
+  acts-on true (Done s) hs′ cs′ latest′ q (e, h) = (e, rw q (seen-from layout card host (swapped s) cs′ hs latest′ _ _ refl refl h))
   acts-on true (Unmet c) hs′ cs′ latest′ q (e, f, g) = (e, q, f, g)
   acts-on false (Done s) hs′ cs′ latest′ q (e, h) = (e, rw q h)
   acts-on false (Unmet c) hs′ cs′ latest′ q (e, f, g) = (e, f, q, g)
 
-module _ {arrays : Arrays} {s : Stored} {hs cs latest : List ℕ} {σ : State} {l : List Event} (h : Holds arrays host s hs cs latest σ l) where
-  holds-on : (b : Bool) → Holds arrays (side-on b) (seen b s) (of-side b hs cs) (of-side b cs hs) latest σ l
-  holds-on true = seen-from arrays host card s hs cs latest σ l refl refl h
+module _ {layout : Layout} {s : Stored} {hs cs latest : List ℕ} {σ : State} {l : List Event} (h : Holds layout host s hs cs latest σ l) where
+  holds-on : (b : Bool) → Holds layout (side-on b) (seen b s) (of-side b hs cs) (of-side b cs hs) latest σ l
+  holds-on true = seen-from layout host card s hs cs latest σ l refl refl h
   holds-on false = h
 
   -- the flags of a side
-  pub flags-held : (b : Bool) → flags-on b s ≡ mask (length arrays) (σ .flag (side-on b))
+  pub flags-held : (b : Bool) → flags-on b s ≡ mask (length (layout .lengths)) (σ .flag (side-on b))
   flags-held true = h .others-flags
   flags-held false = h .own-flags
 
   module _ (low : Low s) where
-    module _ {x : Cells} {from to : ℕ} (k : CellsAt arrays x from to) where
+    module _ {x : Cells} {from to : ℕ} (k : CellsAt layout x from to) where
       pub read-done-on : (b : Bool) {r : ℕ} → FirstStale (of-side b hs cs) latest from to r → to ≤ r →
-          ActsAs arrays (read (side-on b) x) σ l hs cs latest (Done (record { flags = s .flags; «other_flags» = s .«other_flags»; reads = s .reads + 1; writes = s .writes; moved = s .moved; known = s .known })) hs cs latest
-      read-done-on true f m = acts-on arrays (read card x) σ l hs cs latest true (Done (record { flags = s .flags; «other_flags» = s .«other_flags»; reads = s .reads + 1; writes = s .writes; moved = s .moved; known = s .known })) hs cs latest refl (read-done (holds-on true) k (low-seen true low) f m)
-      read-done-on false f m = acts-on arrays (read host x) σ l hs cs latest false (Done (record { flags = s .flags; «other_flags» = s .«other_flags»; reads = s .reads + 1; writes = s .writes; moved = s .moved; known = s .known })) hs cs latest refl (read-done h k low f m)
+          ActsAs layout (read (side-on b) x) σ l hs cs latest (Done (record { flags = s .flags; «other_flags» = s .«other_flags»; reads = s .reads + 1; writes = s .writes; moved = s .moved; known = s .known })) hs cs latest
+      read-done-on true f m = acts-on layout (read card x) σ l hs cs latest true (Done (record { flags = s .flags; «other_flags» = s .«other_flags»; reads = s .reads + 1; writes = s .writes; moved = s .moved; known = s .known })) hs cs latest refl (read-done (holds-on true) k (low-seen true low) f m)
+      read-done-on false f m = acts-on layout (read host x) σ l hs cs latest false (Done (record { flags = s .flags; «other_flags» = s .«other_flags»; reads = s .reads + 1; writes = s .writes; moved = s .moved; known = s .known })) hs cs latest refl (read-done h k low f m)
 
-      pub read-unmet-on : (b : Bool) {r : ℕ} → FirstStale (of-side b hs cs) latest from to r → r < to → lowest-unmet arrays (read (side-on b) x) σ ≡ some r
+      pub read-unmet-on : (b : Bool) {r : ℕ} → FirstStale (of-side b hs cs) latest from to r → r < to → lowest-unmet layout (read (side-on b) x) σ ≡ some r
       read-unmet-on b f m = read-unmet (holds-on b) k (low-seen b low) f m
 
-    module _ {x : Cells} {a : ℕ} {whole : Bool} {from to : ℕ} (k : CellsOf arrays x a whole from to) where
+    module _ {x : Cells} {a : ℕ} {whole : Bool} {from to : ℕ} (k : CellsOf layout x a whole from to) where
       pub write-done-on : (b : Bool) (n : Known) → Wrote b whole a (s .known) n → {hs′ cs′ latest′ : List ℕ} → ChangedOn b from to (λ c. s .writes + 1) hs cs hs′ cs′ → Changed from to (λ c. s .writes + 1) latest latest′ →
-          ActsAs arrays (write (side-on b) x) σ l hs cs latest (Done (record { flags = s .flags; «other_flags» = s .«other_flags»; reads = s .reads; writes = s .writes + 1; moved = s .moved; known = n })) hs′ cs′ latest′
-      write-done-on true n w {hs′} {cs′} {latest′} c d = acts-on arrays (write card x) σ l hs cs latest true (Done (record { flags = s .flags; «other_flags» = s .«other_flags»; reads = s .reads; writes = s .writes + 1; moved = s .moved; known = n })) hs′ cs′ latest′ (c .others) (write-done (holds-on true) k (turned n) (record { own = w .own; others = w .others }) (c .own) d)
-      write-done-on false n w {hs′} {cs′} {latest′} c d = acts-on arrays (write host x) σ l hs cs latest false (Done (record { flags = s .flags; «other_flags» = s .«other_flags»; reads = s .reads; writes = s .writes + 1; moved = s .moved; known = n })) hs′ cs′ latest′ (c .others) (write-done h k n w (c .own) d)
+          ActsAs layout (write (side-on b) x) σ l hs cs latest (Done (record { flags = s .flags; «other_flags» = s .«other_flags»; reads = s .reads; writes = s .writes + 1; moved = s .moved; known = n })) hs′ cs′ latest′
+      write-done-on true n w {hs′} {cs′} {latest′} c d = acts-on layout (write card x) σ l hs cs latest true (Done (record { flags = s .flags; «other_flags» = s .«other_flags»; reads = s .reads; writes = s .writes + 1; moved = s .moved; known = n })) hs′ cs′ latest′ (c .others) (write-done (holds-on true) k (turned n) (record { own = w .own; others = w .others }) (c .own) d)
+      write-done-on false n w {hs′} {cs′} {latest′} c d = acts-on layout (write host x) σ l hs cs latest false (Done (record { flags = s .flags; «other_flags» = s .«other_flags»; reads = s .reads; writes = s .writes + 1; moved = s .moved; known = n })) hs′ cs′ latest′ (c .others) (write-done h k n w (c .own) d)
 
-      pub copy-acts : (b : Bool) {hs′ cs′ : List ℕ} (r : Acted) → MovesOn b a whole from to s hs cs latest r hs′ cs′ → ActsAs arrays (copy (side-on b) x) σ l hs cs latest r hs′ cs′ latest
-      copy-acts b {hs′} {cs′} r m = acts-on arrays (copy (side-on b) x) σ l hs cs latest b r hs′ cs′ latest (m .others)
+      pub copy-acts : (b : Bool) {hs′ cs′ : List ℕ} (r : Acted) → MovesOn b a whole from to s hs cs latest r hs′ cs′ → ActsAs layout (copy (side-on b) x) σ l hs cs latest r hs′ cs′ latest
+      copy-acts b {hs′} {cs′} r m = acts-on layout (copy (side-on b) x) σ l hs cs latest b r hs′ cs′ latest (m .others)
           (copy-follows (holds-on b) k (low-seen b low) (seen-as b r) (of-side b hs′ cs′) (moves-seen b a whole from to s (of-side b hs cs) (of-side b cs hs) latest (of-side b hs′ cs′) r (m .moves)))
 
-    module _ {a from to : ℕ} (k : ArrayAt arrays a from to) where
-      pub need-idle-on : (b : Bool) → σ .flag (side-on b) a ≡ true → ActsAs arrays (need (side-on b) a) σ l hs cs latest (Done s) hs cs latest
-      need-idle-on b e = acts-on arrays (need (side-on b) a) σ l hs cs latest b (Done s) hs cs latest refl (need-idle (holds-on b) k e)
+    module _ {a from to : ℕ} (k : ArrayAt layout a from to) where
+      pub need-idle-on : (b : Bool) → σ .flag (side-on b) a ≡ true → ActsAs layout (need (side-on b) a) σ l hs cs latest (Done s) hs cs latest
+      need-idle-on b e = acts-on layout (need (side-on b) a) σ l hs cs latest b (Done s) hs cs latest refl (need-idle (holds-on b) k e)
 
-      pub need-acts : (b whole : Bool) {hs′ cs′ : List ℕ} (r q : Acted) → σ .flag (side-on b) a ≡ false → MovesOn b a whole from to s hs cs latest r hs′ cs′ → BothSetAs r a q → ActsAs arrays (need (side-on b) a) σ l hs cs latest q hs′ cs′ latest
-      need-acts b whole {hs′} {cs′} r q e m n = acts-on arrays (need (side-on b) a) σ l hs cs latest b q hs′ cs′ latest (m .others)
+      pub need-acts : (b whole : Bool) {hs′ cs′ : List ℕ} (r q : Acted) → σ .flag (side-on b) a ≡ false → MovesOn b a whole from to s hs cs latest r hs′ cs′ → BothSetAs r a q → ActsAs layout (need (side-on b) a) σ l hs cs latest q hs′ cs′ latest
+      need-acts b whole {hs′} {cs′} r q e m n = acts-on layout (need (side-on b) a) σ l hs cs latest b q hs′ cs′ latest (m .others)
           (need-follows (holds-on b) k whole (low-seen b low) e (seen-as b r) (seen-as b q) (of-side b hs′ cs′) (moves-seen b a whole from to s (of-side b hs cs) (of-side b cs hs) latest (of-side b hs′ cs′) r (m .moves)) (both-seen b a r q n))
 
   -- a mark
   pub mark-card : (b : Bool) (a : ℕ) (s′ : Stored) → b ≡ true →
-      s′ .flags ≡ mask (length arrays) (λ d. cond (eqb d a) false (σ .flag host d)) → s′ .«other_flags» ≡ mask (length arrays) (λ d. cond (eqb d a) true (σ .flag card d)) →
-      s′ .reads ≡ s .reads → s′ .writes ≡ s .writes → s′ .moved ≡ s .moved → s′ .known ≡ s .known → ActsAs arrays (mark (side-on b) a) σ l hs cs latest (Done s′) hs cs latest
-  mark-card true a s′ e f g i j m n = acts-on arrays (mark card a) σ l hs cs latest true (Done s′) hs cs latest refl (mark-done (holds-on true) a (swapped s′) g f i j m (ap turned n))
+      s′ .flags ≡ mask (length (layout .lengths)) (λ d. cond (eqb d a) false (σ .flag host d)) → s′ .«other_flags» ≡ mask (length (layout .lengths)) (λ d. cond (eqb d a) true (σ .flag card d)) →
+      s′ .reads ≡ s .reads → s′ .writes ≡ s .writes → s′ .moved ≡ s .moved → s′ .known ≡ s .known → ActsAs layout (mark (side-on b) a) σ l hs cs latest (Done s′) hs cs latest
+  mark-card true a s′ e f g i j m n = acts-on layout (mark card a) σ l hs cs latest true (Done s′) hs cs latest refl (mark-done (holds-on true) a (swapped s′) g f i j m (ap turned n))
   mark-card false a s′ e f g i j m n = absurd (true≢false (rw e refl))
 
   pub mark-host : (b : Bool) (a : ℕ) (s′ : Stored) → b ≡ false →
-      s′ .flags ≡ mask (length arrays) (λ d. cond (eqb d a) true (σ .flag host d)) → s′ .«other_flags» ≡ mask (length arrays) (λ d. cond (eqb d a) false (σ .flag card d)) →
-      s′ .reads ≡ s .reads → s′ .writes ≡ s .writes → s′ .moved ≡ s .moved → s′ .known ≡ s .known → ActsAs arrays (mark (side-on b) a) σ l hs cs latest (Done s′) hs cs latest
-  mark-host false a s′ e f g i j m n = acts-on arrays (mark host a) σ l hs cs latest false (Done s′) hs cs latest refl (mark-done h a s′ f g i j m n)
+      s′ .flags ≡ mask (length (layout .lengths)) (λ d. cond (eqb d a) true (σ .flag host d)) → s′ .«other_flags» ≡ mask (length (layout .lengths)) (λ d. cond (eqb d a) false (σ .flag card d)) →
+      s′ .reads ≡ s .reads → s′ .writes ≡ s .writes → s′ .moved ≡ s .moved → s′ .known ≡ s .known → ActsAs layout (mark (side-on b) a) σ l hs cs latest (Done s′) hs cs latest
+  mark-host false a s′ e f g i j m n = acts-on layout (mark host a) σ l hs cs latest false (Done s′) hs cs latest refl (mark-done h a s′ f g i j m n)
   mark-host true a s′ e f g i j m n = absurd (true≢false e)
 
 -- a copy to a side, unmet or done
@@ -177,41 +177,41 @@ module _ (x : Fields) (whole : Bool) (from to : ℕ) (s : Stored) (hs cs latest 
   named = record { array = x .array; p = x .p; q = x .q }
 
   abbrev As : List ℕ → List ℕ → List ℕ → Action → Type 0
-  As hs′ cs′ latest′ y = (arrays : Arrays) → Spans arrays y from to → (whole ≡ true → ArrayAt arrays (x .array) from to) → Acts arrays y s hs cs latest r hs′ cs′ latest′
+  As hs′ cs′ latest′ y = (layout : Layout) → Spans layout y from to → (whole ≡ true → ArrayAt layout (x .array) from to) → Acts layout y s hs cs latest r hs′ cs′ latest′
 
   same : side-on on ≡ side-of (x .side)
   same = side-same (x .side) (eqb (x .side) 0) refl
 
   pub here-read : x .kind ≡ 1 →
-      ((arrays : Arrays) (z : Cells) → CellsAt arrays z from to → Acts arrays (read (side-on on) z) s hs cs latest r hs cs latest) →
+      ((layout : Layout) (z : Cells) → CellsAt layout z from to → Acts layout (read (side-on on) z) s hs cs latest r hs cs latest) →
       As hs cs latest (action-of x)
   here-read e p =
       by-kind x (omega arith, omega arith) (As hs cs latest)
-      (λ _. carry (λ t. As hs cs latest (read t named)) same (λ arrays k w. p arrays named k))
+      (λ _. carry (λ t. As hs cs latest (read t named)) same (λ layout k w. p layout named k))
       (λ z. absurd (omega arith)) (λ z. absurd (omega arith)) (λ z. absurd (omega arith)) (λ z. absurd (omega arith))
 
   pub here-write : x .kind ≡ 2 → (hs′ cs′ latest′ : List ℕ) →
-      ((arrays : Arrays) (z : Cells) → CellsOf arrays z (x .array) whole from to → Acts arrays (write (side-on on) z) s hs cs latest r hs′ cs′ latest′) →
+      ((layout : Layout) (z : Cells) → CellsOf layout z (x .array) whole from to → Acts layout (write (side-on on) z) s hs cs latest r hs′ cs′ latest′) →
       As hs′ cs′ latest′ (action-of x)
   here-write e hs′ cs′ latest′ p =
       by-kind x (omega arith, omega arith) (As hs′ cs′ latest′) (λ z. absurd (omega arith))
-      (λ _. carry (λ t. As hs′ cs′ latest′ (write t named)) same (λ arrays k w. p arrays named (record { range = k; array = refl; all = w })))
+      (λ _. carry (λ t. As hs′ cs′ latest′ (write t named)) same (λ layout k w. p layout named (record { range = k; array = refl; all = w })))
       (λ z. absurd (omega arith)) (λ z. absurd (omega arith)) (λ z. absurd (omega arith))
 
   pub here-move : (1 ≤ x .kind) × (x .kind ≤ 5) → (x .kind ≡ 1 → ⊥) → (x .kind ≡ 2 → ⊥) → (x .kind ≡ 5 → ⊥) → (hs′ cs′ : List ℕ) →
-      (eqb (x .kind) 4 ≡ false → (arrays : Arrays) (z : Cells) → CellsOf arrays z (x .array) whole from to → Acts arrays (copy (side-on on) z) s hs cs latest r hs′ cs′ latest) →
-      (eqb (x .kind) 4 ≡ true → (arrays : Arrays) → ArrayAt arrays (x .array) from to → Acts arrays (need (side-on on) (x .array)) s hs cs latest r hs′ cs′ latest) →
+      (eqb (x .kind) 4 ≡ false → (layout : Layout) (z : Cells) → CellsOf layout z (x .array) whole from to → Acts layout (copy (side-on on) z) s hs cs latest r hs′ cs′ latest) →
+      (eqb (x .kind) 4 ≡ true → (layout : Layout) → ArrayAt layout (x .array) from to → Acts layout (need (side-on on) (x .array)) s hs cs latest r hs′ cs′ latest) →
       As hs′ cs′ latest (action-of x)
   here-move b n1 n2 n5 hs′ cs′ m p =
       by-kind x b (As hs′ cs′ latest) (λ z. absurd (n1 z)) (λ z. absurd (n2 z))
-      (λ e. carry (λ t. As hs′ cs′ latest (copy t named)) same (λ arrays k w. m (ne-eqb (x .kind) 4 (λ z. omega arith)) arrays named (record { range = k; array = refl; all = w })))
-      (λ e. carry (λ t. As hs′ cs′ latest (need t (x .array))) same (λ arrays k w. p (eq-eqb (x .kind) 4 e) arrays k))
+      (λ e. carry (λ t. As hs′ cs′ latest (copy t named)) same (λ layout k w. m (ne-eqb (x .kind) 4 (λ z. omega arith)) layout named (record { range = k; array = refl; all = w })))
+      (λ e. carry (λ t. As hs′ cs′ latest (need t (x .array))) same (λ layout k w. p (eq-eqb (x .kind) 4 e) layout k))
       (λ z. absurd (n5 z))
 
   pub here-mark : x .kind ≡ 5 →
-      ((arrays : Arrays) (from to : ℕ) (hs cs latest : List ℕ) → ArrayAt arrays (x .array) from to → Acts arrays (mark (side-on on) (x .array)) s hs cs latest r hs cs latest) →
+      ((layout : Layout) (from to : ℕ) (hs cs latest : List ℕ) → ArrayAt layout (x .array) from to → Acts layout (mark (side-on on) (x .array)) s hs cs latest r hs cs latest) →
       As hs cs latest (action-of x)
   here-mark e p =
       by-kind x (omega arith, omega arith) (As hs cs latest)
       (λ z. absurd (omega arith)) (λ z. absurd (omega arith)) (λ z. absurd (omega arith)) (λ z. absurd (omega arith))
-      (λ _. carry (λ t. As hs cs latest (mark t (x .array))) same (λ arrays k w. p arrays from to hs cs latest k))
+      (λ _. carry (λ t. As hs cs latest (mark t (x .array))) same (λ layout k w. p layout from to hs cs latest k))

@@ -3,7 +3,7 @@ ghost use mathlib.Core.Path.{_≡_};
 ghost use mathlib.Core.Bool.{true, false, not};
 ghost use mathlib.Core.List.{List};
 ghost use Prim.Native.Nat.{ℕ, _≤_, _<_};
-ghost use Rattle.model.specs.Sides.{Arrays, Cells};
+ghost use Rattle.model.specs.Sides.{Layout, Cells};
 ghost use Rattle.model.specs.Effects.{read, write, copy, need, mark};
 ghost use Rattle.format.specs.Plans.{action-of};
 ghost use Rattle.memories.specs.Inner.Ranges.{AllCurrent, FirstStale, Same, of-side};
@@ -74,7 +74,7 @@ fn act_read<'a>(
     latest: &[u64],
 ) -> Acted
     requires { ⌜ Low s × (array < 32) × Sure (s .known) array from to (now host) (now card) (now latest) × Rooms from to (now host) (now card) (now latest) ⌝ }
-    ensures { λ r. ⌜ ((arrays : Arrays) (x : Cells) → CellsAt arrays x from to → Acts arrays (read (side-on «on_card») x) s (now (host .entry)) (now (card .entry)) (now (latest .entry)) r (now (host .entry)) (now (card .entry)) (now (latest .entry))) ⌝ }
+    ensures { λ r. ⌜ ((layout : Layout) (x : Cells) → CellsAt layout x from to → Acts layout (read (side-on «on_card») x) s (now (host .entry)) (now (card .entry)) (now (latest .entry)) r (now (host .entry)) (now (card .entry)) (now (latest .entry))) ⌝ }
 {
     let k = s.known;
     let known = sure(k, on_card, array);
@@ -105,7 +105,7 @@ fn act_write(
     latest: &mut [u64],
 ) -> Acted
     requires { ⌜ Low s × (array < 32) × Rooms from to (now host) (now card) (now latest) ⌝ }
-    ensures acts { λ r. ⌜ ((arrays : Arrays) (x : Cells) → CellsOf arrays x array whole from to → Acts arrays (write (side-on «on_card») x) s (now (host .entry)) (now (card .entry)) (now (latest .entry)) r (now (host .exit)) (now (card .exit)) (now (latest .exit))) ⌝ }
+    ensures acts { λ r. ⌜ ((layout : Layout) (x : Cells) → CellsOf layout x array whole from to → Acts layout (write (side-on «on_card») x) s (now (host .entry)) (now (card .entry)) (now (latest .entry)) r (now (host .exit)) (now (card .exit)) (now (latest .exit))) ⌝ }
     ensures same { λ _. ⌜ Same to (now (host .entry)) (now (host .exit)) × Same to (now (card .entry)) (now (card .exit)) × Same to (now (latest .entry)) (now (latest .exit)) ⌝ }
 {
     let k = s.writes + 1;
@@ -204,8 +204,8 @@ fn act_move(
     latest: &[u64],
 ) -> Acted
     requires { ⌜ Low s × (array < 32) × Sure (s .known) array from to (now host) (now card) (now latest) × Rooms from to (now host) (now card) (now latest) ⌝ }
-    ensures copies { λ r. ⌜ (needs ≡ false → (arrays : Arrays) (x : Cells) → CellsOf arrays x array whole from to → Acts arrays (copy (side-on «on_card») x) s (now (host .entry)) (now (card .entry)) (now (latest .entry)) r (now (host .exit)) (now (card .exit)) (now (latest .entry))) ⌝ }
-    ensures needed { λ r. ⌜ (needs ≡ true → (arrays : Arrays) → ArrayAt arrays array from to → Acts arrays (need (side-on «on_card») array) s (now (host .entry)) (now (card .entry)) (now (latest .entry)) r (now (host .exit)) (now (card .exit)) (now (latest .entry))) ⌝ }
+    ensures copies { λ r. ⌜ (needs ≡ false → (layout : Layout) (x : Cells) → CellsOf layout x array whole from to → Acts layout (copy (side-on «on_card») x) s (now (host .entry)) (now (card .entry)) (now (latest .entry)) r (now (host .exit)) (now (card .exit)) (now (latest .entry))) ⌝ }
+    ensures needed { λ r. ⌜ (needs ≡ true → (layout : Layout) → ArrayAt layout array from to → Acts layout (need (side-on «on_card») array) s (now (host .entry)) (now (card .entry)) (now (latest .entry)) r (now (host .exit)) (now (card .exit)) (now (latest .entry))) ⌝ }
     ensures same { λ _. ⌜ Same to (now (host .entry)) (now (host .exit)) × Same to (now (card .entry)) (now (card .exit)) ⌝ }
 {
     if needs & flag_set(side_flags(on_card, s), array) {
@@ -221,7 +221,7 @@ fn act_move(
 // A mark of an array on a side.
 fn act_mark(on_card: bool, array: u8, s: Stored) -> Acted
     requires { ⌜ array < 32 ⌝ }
-    ensures { λ r. ⌜ ((arrays : Arrays) (from to : ℕ) (host card latest : List ℕ) → ArrayAt arrays array from to → Acts arrays (mark (side-on «on_card») array) s host card latest r host card latest) ⌝ }
+    ensures { λ r. ⌜ ((layout : Layout) (from to : ℕ) (host card latest : List ℕ) → ArrayAt layout array from to → Acts layout (mark (side-on «on_card») array) s host card latest r host card latest) ⌝ }
 {
     let k = s.known;
     if on_card {
@@ -257,7 +257,7 @@ pub fn act(
     latest: &mut [u64],
 ) -> Acted
     requires { ⌜ Low s × Sure (s .known) (x .array) from to (now host) (now card) (now latest) × (1 ≤ x .kind) × (x .kind ≤ 5) × (x .array < 32) × Rooms from to (now host) (now card) (now latest) ⌝ }
-    ensures follows { λ r. ⌜ ((arrays : Arrays) → Spans arrays (action-of x) from to → (whole ≡ true → ArrayAt arrays (x .array) from to) → Acts arrays (action-of x) s (now (host .entry)) (now (card .entry)) (now (latest .entry)) r (now (host .exit)) (now (card .exit)) (now (latest .exit))) ⌝ }
+    ensures follows { λ r. ⌜ ((layout : Layout) → Spans layout (action-of x) from to → (whole ≡ true → ArrayAt layout (x .array) from to) → Acts layout (action-of x) s (now (host .entry)) (now (card .entry)) (now (latest .entry)) r (now (host .exit)) (now (card .exit)) (now (latest .exit))) ⌝ }
     ensures host { λ _. ⌜ Same to (now (host .entry)) (now (host .exit)) ⌝ }
     ensures card { λ _. ⌜ Same to (now (card .entry)) (now (card .exit)) ⌝ }
     ensures latest { λ _. ⌜ Same to (now (latest .entry)) (now (latest .exit)) ⌝ }

@@ -7,12 +7,12 @@ use mathlib.Core.List.{List}
 use native.Nat.{ℕᴺ-discrete}
 use native.Mathlib.Decide.{decLt}
 use native.Mathlib.Omega.{arith}
-use Rattle.model.specs.Sides.{Arrays, length-of}
+use Rattle.model.specs.Sides.{Layout, span-of}
 use Rattle.model.specs.Effects.{Action}
 use Rattle.model.specs.Blocks.{Block, done, act, branch, loop}
 use Rattle.model.proofs.Status.{Status, met-in, status-after}
 use Rattle.model.proofs.Through.{Star, stay, more, Goes, Stops, StopsAt}
-use Rattle.reading.specs.Bytes.{arrays-of, record-count, fields-at}
+use Rattle.reading.specs.Bytes.{layout-of, record-count, fields-at}
 use Rattle.format.specs.Plans.{plan-of}
 use Rattle.format.specs.Inner.Walks.{Plain, Walkable, block-between}
 use Rattle.format.proofs.Walking.{opened-facts}
@@ -28,31 +28,31 @@ star-map h stay = stay
 star-map h {u} (more {w = w} r s) = more (h u w r) (star-map h s)
 
 -- two cells that each record of a block touches both or neither
-module _ (arrays : Arrays) (c d : ℕ) where
+module _ (layout : Layout) (c d : ℕ) where
   abbrev Alike : Block → Type 0
   Alike done = Unit {0}
-  Alike (act k x b) = (touches arrays c x ≡ touches arrays d x) × Alike b
+  Alike (act k x b) = (touches layout c x ≡ touches layout d x) × Alike b
   Alike (branch k x y b) = Alike x × Alike y × Alike b
   Alike (loop k x b) = Alike x × Alike b
 
   -- a record leaves them in the same status, and needs the same of them
-  status-alike : (x : Action) → touches arrays c x ≡ touches arrays d x → (u : Status) → status-after arrays c x u ≡ status-after arrays d x u
-  status-alike x e u = go (touches arrays d x) e refl
+  status-alike : (x : Action) → touches layout c x ≡ touches layout d x → (u : Status) → status-after layout c x u ≡ status-after layout d x u
+  status-alike x e u = go (touches layout d x) e refl
     where
-      go : (t : Bool) → touches arrays c x ≡ t → touches arrays d x ≡ t → status-after arrays c x u ≡ status-after arrays d x u
-      go true p q = touched-status-after arrays c x p u ∙ sym (touched-status-after arrays d x q u)
-      go false p q = untouched-status-after arrays c x p u ∙ sym (untouched-status-after arrays d x q u)
+      go : (t : Bool) → touches layout c x ≡ t → touches layout d x ≡ t → status-after layout c x u ≡ status-after layout d x u
+      go true p q = touched-status-after layout c x p u ∙ sym (touched-status-after layout d x q u)
+      go false p q = untouched-status-after layout c x p u ∙ sym (untouched-status-after layout d x q u)
 
-  met-alike : (x : Action) → touches arrays c x ≡ touches arrays d x → (u : Status) → met-in arrays c x u ≡ met-in arrays d x u
-  met-alike x e u = go (touches arrays d x) e refl
+  met-alike : (x : Action) → touches layout c x ≡ touches layout d x → (u : Status) → met-in layout c x u ≡ met-in layout d x u
+  met-alike x e u = go (touches layout d x) e refl
     where
-      go : (t : Bool) → touches arrays c x ≡ t → touches arrays d x ≡ t → met-in arrays c x u ≡ met-in arrays d x u
-      go true p q = touched-met-in arrays c x p u ∙ sym (touched-met-in arrays d x q u)
-      go false p q = untouched-met-in arrays c x p u ∙ sym (untouched-met-in arrays d x q u)
+      go : (t : Bool) → touches layout c x ≡ t → touches layout d x ≡ t → met-in layout c x u ≡ met-in layout d x u
+      go true p q = touched-met-in layout c x p u ∙ sym (touched-met-in layout d x q u)
+      go false p q = untouched-met-in layout c x p u ∙ sym (untouched-met-in layout d x q u)
 
-  goes-alike : (b : Block) → Alike b → (u v : Status) → Goes arrays c b u v → Goes arrays d b u v
+  goes-alike : (b : Block) → Alike b → (u v : Status) → Goes layout c b u v → Goes layout d b u v
   goes-alike done a u v g = g
-  goes-alike (act k x b) a u v g = rw (status-alike x (a .0) u) at (goes-alike b (a .1) (status-after arrays c x u) v g)
+  goes-alike (act k x b) a u v g = rw (status-alike x (a .0) u) at (goes-alike b (a .1) (status-after layout c x u) v g)
   goes-alike (branch k x y b) a u v g = (
     g .0,
     elim (g .1) [ inl p ↦ inl (goes-alike x (a .0) u (g .0) p) | inr p ↦ inr (goes-alike y (a .1) u (g .0) p) ],
@@ -60,10 +60,10 @@ module _ (arrays : Arrays) (c d : ℕ) where
   )
   goes-alike (loop k x b) a u v g = (g .0, star-map (goes-alike x (a .0)) (g .1), goes-alike b (a .1) (g .0) v (g .2))
 
-  stops-alike : (b : Block) → Alike b → (u : Status) (r : ℕ) → Stops arrays c b u r → Stops arrays d b u r
+  stops-alike : (b : Block) → Alike b → (u : Status) (r : ℕ) → Stops layout c b u r → Stops layout d b u r
   stops-alike done a u r s = s
   stops-alike (act k x b) a u r (inl s) = inl (s .0, sym (met-alike x (a .0) u) ∙ s .1)
-  stops-alike (act k x b) a u r (inr s) = inr (rw (status-alike x (a .0) u) at (stops-alike b (a .1) (status-after arrays c x u) r s))
+  stops-alike (act k x b) a u r (inr s) = inr (rw (status-alike x (a .0) u) at (stops-alike b (a .1) (status-after layout c x u) r s))
   stops-alike (branch k x y b) a u r (inl s) = inl (elim s [ inl p ↦ inl (stops-alike x (a .0) u r p) | inr p ↦ inr (stops-alike y (a .1) u r p) ])
   stops-alike (branch k x y b) a u r (inr s) = inr (
     s .0,
@@ -77,10 +77,10 @@ module _ (arrays : Arrays) (c d : ℕ) where
   )
 
 -- a cell that no record tells apart from the cell before it in its array
-module _ (f : List ℕ) (bodies : ℕ) (w : Plain f bodies) (array offset : ℕ) (inside : suc offset < length-of (arrays-of f) array)
+module _ (f : List ℕ) (bodies : ℕ) (w : Plain f bodies) (array offset : ℕ) (inside : suc offset < span-of (layout-of f) array .length)
     (alike : (k : ℕ) → k < record-count f → covers (fields-at f k) array (suc offset) ≡ covers (fields-at f k) array offset) where
   abbrev These : Block → Type 0
-  These = Alike (arrays-of f) (cell-at f array (suc offset)) (cell-at f array offset)
+  These = Alike (layout-of f) (cell-at f array (suc offset)) (cell-at f array offset)
 
   block-alike : (n r end : ℕ) → Walkable f r end → end ≤ r + n → end ≤ record-count f → These (block-between f r end)
   block-alike zero r end g l m = rw (block-none f r end (omega arith)) tt
@@ -106,5 +106,5 @@ module _ (f : List ℕ) (bodies : ℕ) (w : Plain f bodies) (array offset : ℕ)
   unfolding plan-of
   stop-alike r =
       let o = opened-facts f (w .opens) in
-      rw (plain-body f) (stops-alike (arrays-of f) (cell-at f array (suc offset)) (cell-at f array offset) (block-between f 0 (record-count f))
+      rw (plain-body f) (stops-alike (layout-of f) (cell-at f array (suc offset)) (cell-at f array offset) (block-between f 0 (record-count f))
       (block-alike (record-count f) 0 (record-count f) (plain-walk f o (w .kind)) (omega arith) (omega arith)) at-start r)

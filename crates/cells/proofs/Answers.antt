@@ -11,11 +11,11 @@ use lib.Dec.{eqb}
 use lib.ListN.{getD}
 use borrow.Author.Tests.{eqb-false, ne-eqb}
 use Rattle.model.specs.declared.Verdict.{Verdict}
-use Rattle.model.specs.Sides.{length-of, first-of}
+use Rattle.model.specs.Sides.{span-of}
 use Rattle.model.proofs.Status.{Status}
 use Rattle.model.proofs.Through.{StopsAt}
 use Rattle.model.proofs.Check.{AtMost, Least, with-cell, Fits, fits-cell, fits-alike}
-use Rattle.reading.specs.Bytes.{array-count, arrays-of, record-count}
+use Rattle.reading.specs.Bytes.{array-count, layout-of, record-count, lengths-of}
 use Rattle.format.specs.Plans.{plan-of}
 use Rattle.format.specs.Inner.Walks.{Plain, Starts, block-between}
 use Rattle.reading.proofs.Tables.{first-more, first-rises, all-cells}
@@ -50,18 +50,18 @@ stop-is f c class rows set t b e p = let z : cell-of class ≡ c = omega arith i
 
 -- the first cell of an array is a small number
 pub start-low : {f starts : List ℕ} {bodies : ℕ} → Plain f bodies → Starts f starts → (a : ℕ) → a ≤ array-count f → getD starts a 0 ≤ 4096
-start-low {f} w s a h = omega (arith, s .first a h, first-rises (arrays-of f) a (array-count f) h, all-cells f, opened-facts f (w .opens) .bounds .cells-below)
+start-low {f} w s a h = omega (arith, s .first a h, first-rises (lengths-of f) a (array-count f) h, all-cells f, opened-facts f (w .opens) .bounds .cells-below)
 
 -- where the cells of an array end
 pub record Ends (f : List ℕ) (array first next : ℕ) : Type 0 where
-  pub size : next ≡ first + length-of (arrays-of f) array
+  pub size : next ≡ first + span-of (layout-of f) array .length
   pub limit : next ≤ 4096
 
 module _ (f : List ℕ) (bodies : ℕ) (w : Plain f bodies) (array first next : ℕ) (s : Span f array first next) where
   pub ends : Ends f array first next
   ends =
-      let m : first-of (arrays-of f) (array + 1) ≡ first-of (arrays-of f) array + length-of (arrays-of f) array = rw add-one (first-more (arrays-of f) array) in
-      let l : first-of (arrays-of f) (array + 1) ≤ first-of (arrays-of f) (array-count f) = first-rises (arrays-of f) (array + 1) (array-count f) (omega (arith, s .one)) in
+      let m : span-of (layout-of f) (array + 1) .first ≡ span-of (layout-of f) array .first + span-of (layout-of f) array .length = rw add-one (first-more (lengths-of f) array) in
+      let l : span-of (layout-of f) (array + 1) .first ≤ span-of (layout-of f) (array-count f) .first = first-rises (lengths-of f) (array + 1) (array-count f) (omega (arith, s .one)) in
       record { size = omega (arith, s .begins, s .ends); limit = omega (arith, s .ends, all-cells f, opened-facts f (w .opens) .bounds .cells-below) }
 
   -- a cell with its own stop
@@ -74,7 +74,7 @@ module _ (f : List ℕ) (bodies : ℕ) (w : Plain f bodies) (array first next : 
     shared zero c low e nm fits = let z : n ≡ c = omega arith in rw z fits
     shared (suc d) c low e nm fits =
         let o : ℕ = c - first - 1 in
-        let inside : suc o < length-of (arrays-of f) array = omega (arith, ends .size) in
+        let inside : suc o < span-of (layout-of f) array .length = omega (arith, ends .size) in
         let z : cell-at f array (suc o) ≡ c = omega (arith, s .begins) in
         shared d (suc c) (omega arith) (omega arith) (λ i l. nm i (omega arith)) (fits-alike c (cell-at f array o) (StopsAt (plan-of f)) v (omega (arith, s .begins))
         (λ r p. stop-alike f bodies w array o inside (k .alike array o inside (rw z (nm c (omega arith) (omega arith)))) r (rw z p)) fits)

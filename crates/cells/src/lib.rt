@@ -2,11 +2,11 @@
 ghost use mathlib.Core.Path.{_≡_};
 ghost use Prim.Native.Nat.{ℕ, _+_, _≤_, _<_};
 ghost use lib.ListN.{getD};
-ghost use Rattle.model.specs.Sides.{length-of};
+ghost use Rattle.model.specs.Sides.{span-of};
 ghost use Rattle.model.specs.Check.{Answers};
 ghost use Rattle.model.proofs.Through.{StopsAt};
 ghost use Rattle.model.proofs.Check.{Least, Fits};
-ghost use Rattle.reading.specs.Bytes.{array-count, arrays-of, record-count};
+ghost use Rattle.reading.specs.Bytes.{array-count, layout-of, record-count};
 ghost use Rattle.format.specs.Plans.{plan-of};
 ghost use Rattle.format.specs.Inner.Walks.{Plain, Starts};
 ghost use Rattle.statuses.specs.Inner.Sets.{record-of};
@@ -39,7 +39,7 @@ fn stop_of(
     offset: usize,
     c: usize,
 ) -> u16
-    requires { ⌜ Plain (now plan) bodies × (records ≡ record-count (now plan)) × (offset < length-of (arrays-of (now plan)) (array .0)) × (c ≡ cell-at (now plan) (array .0) offset) × (c < 4096) × Room (now plan) c (now rows) × Spare (now plan) (now ahead) ⌝ }
+    requires { ⌜ Plain (now plan) bodies × (records ≡ record-count (now plan)) × (offset < span-of (layout-of (now plan)) (array .0) .length) × (c ≡ cell-at (now plan) (array .0) offset) × (c < 4096) × Room (now plan) c (now rows) × Spare (now plan) (now ahead) ⌝ }
     ensures { λ k. ⌜ Least (record-of k) (λ r. StopsAt (plan-of (now (plan .entry))) r c) × Room (now (plan .entry)) (c + 1) (now (rows .exit)) × Spare (now (plan .entry)) (now (ahead .exit)) ⌝ }
 {
     look_ahead(plan, bodies, records, array, offset, ahead);

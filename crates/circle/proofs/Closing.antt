@@ -9,7 +9,7 @@ use lib.Dec.{ltb}
 use lib.ListN.{length, getD, drop, List·getD-append}
 use borrow.Author.Tests.{eq-eqb, le-ltb}
 use Rattle.model.specs.declared.Verdict.the-variants.{Accepted, Refused}
-use Rattle.model.specs.Sides.{Side, host, card, at, Arrays, cells}
+use Rattle.model.specs.Sides.{Side, host, card, at, Layout, cell-count}
 use Rattle.model.specs.Blocks.{size, Plan}
 use Rattle.model.specs.Runs.{Config, Ending, finished, stopped, out-of-choices, Ends, tally}
 use Rattle.model.specs.Demand.{latest-write}
@@ -17,7 +17,7 @@ use Rattle.model.proofs.Runs.{carried}
 use Rattle.model.proofs.Stamps.{tracked}
 use Rattle.model.proofs.Rows.{skips, pass}
 use Rattle.model.proofs.Demand3.{moves-add}
-use Rattle.reading.specs.Bytes.{kind-of, table, arrays-of}
+use Rattle.reading.specs.Bytes.{kind-of, table, layout-of}
 use Rattle.reading.proofs.Tables.{length-table, getD-table}
 use Rattle.format.specs.Opening.{open-rows, opening}
 use Rattle.memories.specs.Memories.{number-of}
@@ -45,27 +45,27 @@ module _ (f : List ℕ) (accepted : judged f ≡ Accepted) (small : size (expans
   same-plan = expansion-opens f accepted small .2
 
   -- a run that is done, and what its tally then is
-  adds : (k : Config) → Ends (expansion-of f) (choices-of choices) k finished → after .tally .moved ≡ tally (arrays-of f) (k .history) .moved → Adds f choices after
+  adds : (k : Config) → Ends (expansion-of f) (choices-of choices) k finished → after .tally .moved ≡ tally (layout-of f) (k .history) .moved → Adds f choices after
   unfolding declared-plan-of
   adds k h t =
       let m = moves-add (declared-plan-of f) (accepted-rules f .0 accepted .2) (choices-of choices) k h in
       record { config = k; ends = h; moved = m .0; adds = t ∙ m .1 }
 
-  same-arrays : arrays-of (expansion-file f) ≡ arrays-of f
+  same-layout : layout-of (expansion-file f) ≡ layout-of f
   unfolding plan-of declared-plan-of
-  same-arrays = ap (λ (p : Plan). p .arrays) same-plan
+  same-layout = ap (λ (p : Plan). p .layout) same-plan
 
   -- memories that hold a configuration of the run, and the reads before it
-  module _ (k : Config) (x : Ending) (h : Ends (expansion-of f) (choices-of choices) k x) (m : after ≡ holding (arrays-of f) k before) where
-    one-current : (s : Side) (c : ℕ) → c < cells (arrays-of f) → k .state .held s c ≡ at (latest-write (arrays-of f) (k .history) c) →
+  module _ (k : Config) (x : Ending) (h : Ends (expansion-of f) (choices-of choices) k x) (m : after ≡ holding (layout-of f) k before) where
+    one-current : (s : Side) (c : ℕ) → c < cell-count (layout-of f) → k .state .held s c ≡ at (latest-write (layout-of f) (k .history) c) →
         (getD (after .host) c 0 ≡ getD (after .latest) c 0) ⊎ (getD (after .card) c 0 ≡ getD (after .latest) c 0)
     unfolding declared-plan-of
     one-current s c l e =
-        let n = cells (arrays-of f) in
+        let n = cell-count (layout-of f) in
         let latest = ap (λ (y : Lent). getD (y .latest) c 0) m ∙ held-at n (k .state .latest) (before .latest) c l ∙ tracked (carried (h .run)) .latest c in
         go s e latest
       where
-        go : (s : Side) → k .state .held s c ≡ at (latest-write (arrays-of f) (k .history) c) → getD (after .latest) c 0 ≡ latest-write (arrays-of f) (k .history) c →
+        go : (s : Side) → k .state .held s c ≡ at (latest-write (layout-of f) (k .history) c) → getD (after .latest) c 0 ≡ latest-write (layout-of f) (k .history) c →
             (getD (after .host) c 0 ≡ getD (after .latest) c 0) ⊎ (getD (after .card) c 0 ≡ getD (after .latest) c 0)
         go host e u = inl (ap (λ (y : Lent). getD (y .host) c 0) m ∙ held-at _ (λ i. number-of (k .state .held host i)) (before .host) c l ∙ ap number-of e ∙ sym u)
         go card e u = inr (ap (λ (y : Lent). getD (y .card) c 0) m ∙ held-at _ (λ i. number-of (k .state .held card i)) (before .card) c l ∙ ap number-of e ∙ sym u)
@@ -96,10 +96,10 @@ module _ (f : List ℕ) (accepted : judged f ≡ Accepted) (small : size (expans
   unfolding plan-of declared-plan-of
   ran r =
       go (r .ending) (subst (λ (p : Plan). Ends p (choices-of choices) (r .config) (r .ending)) same-plan (r .ends))
-      (subst (λ (a : Arrays). after ≡ holding a (r .config) before) same-arrays (r .holds)) (ap (λ (x : End). x .verdict) (r .answers))
+      (subst (λ (a : Layout). after ≡ holding a (r .config) before) same-layout (r .holds)) (ap (λ (x : End). x .verdict) (r .answers))
     where
-      go : (x : Ending) → Ends (expansion-of f) (choices-of choices) (r .config) x → after ≡ holding (arrays-of f) (r .config) before →
-          answer .verdict ≡ end-of (arrays-of (expansion-file f)) (choices-of choices) (r .config) x .verdict → ExpansionRun f choices before after answer
+      go : (x : Ending) → Ends (expansion-of f) (choices-of choices) (r .config) x → after ≡ holding (layout-of f) (r .config) before →
+          answer .verdict ≡ end-of (layout-of (expansion-file f)) (choices-of choices) (r .config) x .verdict → ExpansionRun f choices before after answer
       go finished h m u = record {
         unstopped = λ n c v. let z : _≡_ {A = ℕ} 0 1 = cc in omega arith;
         ended = λ w. subst DoneOrSpent (sym u) tt;
@@ -116,7 +116,7 @@ module _ (f : List ℕ) (accepted : judged f ≡ Accepted) (small : size (expans
 
   -- what 19 and 20 say of the expansion's file
   short : Bool
-  short = let n = cells (arrays-of (expansion-file f)) in ltb (length (before .host)) n || ltb (length (before .card)) n || ltb (length (before .latest)) n
+  short = let n = cell-count (layout-of (expansion-file f)) in ltb (length (before .host)) n || ltb (length (before .card)) n || ltb (length (before .latest)) n
 
   rows : first (run-rows (expansion-file f) choices before) ≡ first (row short 19 0 ∷ row (ltb 65536 (length choices)) 20 0 ∷ [])
   unfolding run-rows opening short
@@ -126,7 +126,7 @@ module _ (f : List ℕ) (accepted : judged f ≡ Accepted) (small : size (expans
 
   long : Roomy f choices before → short ≡ false
   unfolding short
-  long w = rw (same-arrays, le-ltb _ _ (w .0), le-ltb _ _ (w .1), le-ltb _ _ (w .2))
+  long w = rw (ap (λ (y : Layout). y .lengths) same-layout, le-ltb _ _ (w .0), le-ltb _ _ (w .1), le-ltb _ _ (w .2))
 
   runs-as : RunsAs (expansion-file f) choices before after answer (first (run-rows (expansion-file f) choices before)) → ExpansionRun f choices before after answer
   unfolding first

@@ -10,14 +10,14 @@ use lib.Dec.{ltb, leb, eqb}
 use lib.ListN.{length}
 use borrow.Author.Tests.{ltb-true, ltb-false, le-leb, ne-eqb}
 use Rattle.model.specs.declared.Verdict.the-variants.{Accepted}
-use Rattle.model.specs.Sides.{Side, Cells, length-of}
+use Rattle.model.specs.Sides.{Side, Cells, span-of}
 use Rattle.model.specs.Effects.{Action, read, write, copy, need, mark}
 use Rattle.model.specs.Blocks.{Block, size}
 use Rattle.model.specs.Judging.{Declaration, Pass, no-pass, pass-of}
 use Rattle.model.specs.Expanding.{expand}
 use Rattle.model.proofs.Booleans.{and-out, and-in}
 use Rattle.reading.specs.declared.Fields.{Fields}
-use Rattle.reading.specs.Bytes.{kind-of, array-count, body-count, table, length-at, arrays-of, records-in, declarations-in, first-record, fields-at, between}
+use Rattle.reading.specs.Bytes.{kind-of, array-count, body-count, table, length-at, layout-of, records-in, declarations-in, first-record, fields-at, between, lengths-of}
 use Rattle.rules.specs.Rules.{fields-fit, deepest}
 use Rattle.format.specs.Opening.{opening}
 use Rattle.format.specs.Plans.{action-of, declaration-of, pass-at, declared-plan-of}
@@ -56,24 +56,24 @@ all-called test e (p ∷ ps) (suc (suc b)) h = all-called test e ps (suc b) (and
 -- a record whose fields fit, as an action and as a declaration
 module _ (f : List ℕ) where
   -- what kinds 1 to 5 and 16 to 18 have in common
-  on-array : (side a : ℕ) (x y z : Bool) → (ltb side 2 && ltb a (array-count f) && x && y && z) ≡ true → ltb a (length (arrays-of f)) ≡ true
+  on-array : (side a : ℕ) (x y z : Bool) → (ltb side 2 && ltb a (array-count f) && x && y && z) ≡ true → ltb a (length (lengths-of f)) ≡ true
   on-array side a x y z e =
       let w₁ = and-out (ltb side 2 && ltb a (array-count f) && x && y) z e in
       let w₂ = and-out (ltb side 2 && ltb a (array-count f) && x) y (w₁ .0) in
       let w₃ = and-out (ltb side 2 && ltb a (array-count f)) x (w₂ .0) in
       rw (arrays-counted f) (and-out (ltb side 2) (ltb a (array-count f)) (w₃ .0) .1)
 
-  length-is : (a : ℕ) → ltb a (length (arrays-of f)) ≡ true → length-of (arrays-of f) a ≡ length-at f a
-  length-is a h = array-length f a (rw (arrays-counted f) at (ltb-true a (length (arrays-of f)) h))
+  length-is : (a : ℕ) → ltb a (length (lengths-of f)) ≡ true → span-of (layout-of f) a .length ≡ length-at f a
+  length-is a h = array-length f a (rw (arrays-counted f) at (ltb-true a (length (lengths-of f)) h))
 
-  ranged-fits : (s : Side) (x : Cells) → (ltb (side-number s) 2 && ltb (x .array) (array-count f) && true && ltb (x .p) (x .q) && leb (x .q) (length-at f (x .array))) ≡ true → cells-fit (arrays-of f) x ≡ true
+  ranged-fits : (s : Side) (x : Cells) → (ltb (side-number s) 2 && ltb (x .array) (array-count f) && true && ltb (x .p) (x .q) && leb (x .q) (length-at f (x .array))) ≡ true → cells-fit (layout-of f) x ≡ true
   ranged-fits s x e =
       let front = ltb (side-number s) 2 && ltb (x .array) (array-count f) && true in
       let w = and-out (front && ltb (x .p) (x .q)) (leb (x .q) (length-at f (x .array))) e in
       let a = on-array (side-number s) (x .array) true (ltb (x .p) (x .q)) _ e in
       rw (length-is (x .array) a, a, and-out front (ltb (x .p) (x .q)) (w .0) .1, w .1)
 
-  fields-action : (x : Action) → fields-fit f (action-fields x) ≡ true → action-fits (arrays-of f) x ≡ true
+  fields-action : (x : Action) → fields-fit f (action-fields x) ≡ true → action-fits (layout-of f) x ≡ true
   unfolding fields-fit
   fields-action (read s x) e = ranged-fits s x e
   fields-action (write s x) e = ranged-fits s x e
@@ -82,10 +82,10 @@ module _ (f : List ℕ) where
   fields-action (mark s a) e = on-array (side-number s) a true true true e
 
   module _ (x : Fields) (fits : fields-fit f x ≡ true) where
-    action-fit : 1 ≤ x .kind → x .kind ≤ 5 → action-fits (arrays-of f) (action-of x) ≡ true
+    action-fit : 1 ≤ x .kind → x .kind ≤ 5 → action-fits (layout-of f) (action-of x) ≡ true
     action-fit h k = fields-action (action-of x) (rw (action-again f x fits h k) fits)
 
-    declaration-fit : 16 ≤ x .kind → x .kind ≤ 18 → ltb (declaration-of x .array) (length (arrays-of f)) ≡ true
+    declaration-fit : 16 ≤ x .kind → x .kind ≤ 18 → ltb (declaration-of x .array) (length (lengths-of f)) ≡ true
     unfolding declaration-of
     declaration-fit h k =
         on-array (x .side) (x .array) (eqb (x .zero) 0) (eqb (x .p) 0) (eqb (x .q) 0)
@@ -100,7 +100,7 @@ module _ (f : List ℕ) (kind : kind-of f ≡ 1) (b low most : ℕ) (enough : 8 
     loop : (depth r end : ℕ) → r < end → Good f b depth r end → fields-at f r .kind ≡ 7
         → (n : ℕ) × (block r end ≡ Block.loop n (block (r + 1) (second f r)) (block (next f r) end))
     other : (levels depth r end : ℕ) → depth + levels ≡ most → depth ≤ 8 → low ≤ r → r < end → Good f b depth r end → (fields-at f r .kind ≡ 6 → ⊥) → (fields-at f r .kind ≡ 7 → ⊥)
-        → block-fits (arrays-of f) levels (block (next f r) end) ≡ true → block-fits (arrays-of f) levels (block r end) ≡ true
+        → block-fits (layout-of f) levels (block (next f r) end) ≡ true → block-fits (layout-of f) levels (block r end) ≡ true
 
   -- "in a body of a declared plan inside at most 7"
   shallow : (depth r end : ℕ) → Tests f b depth r end → 6 ≤ fields-at f r .kind → fields-at f r .kind ≤ 7 → depth < 8
@@ -108,7 +108,7 @@ module _ (f : List ℕ) (kind : kind-of f ≡ 1) (b low most : ℕ) (enough : 8 
   shallow depth r end t h k = let l : depth ≤ 7 = ltb-false 7 depth (rw (in-range 6 7 (fields-at f r .kind) h k, ne-eqb (kind-of f) 2 (λ z. omega arith)) at (t .shallow)) in omega arith
 
   module _ (parted : Parted) where
-    parts-fit : (fuel levels depth r end : ℕ) → end ≤ r + fuel → depth + levels ≡ most → depth ≤ 8 → low ≤ r → Good f b depth r end → block-fits (arrays-of f) levels (block r end) ≡ true
+    parts-fit : (fuel levels depth r end : ℕ) → end ≤ r + fuel → depth + levels ≡ most → depth ≤ 8 → low ≤ r → Good f b depth r end → block-fits (layout-of f) levels (block r end) ≡ true
     parts-fit zero levels depth r end n d e l g = rw (parted .none r end (omega arith))
     parts-fit (suc fuel) levels depth r end n d e l g = elim (decLt r end) [
       | no m ↦ rw (parted .none r end (omega arith))
@@ -119,13 +119,13 @@ module _ (f : List ℕ) (kind : kind-of f ≡ 1) (b low most : ℕ) (enough : 8 
           elim (ℕᴺ-discrete (fields-at f r .kind) 6) [
             | yes k ↦
                 let s = shallow depth r end (p .tests) (omega arith) (omega arith) in
-                branch-fits (arrays-of f) most depth (omega arith) (parted .branch depth r end m g k .1) levels d
+                branch-fits (layout-of f) most depth (omega arith) (parted .branch depth r end m g k .1) levels d
                 (λ q u. parts-fit fuel q (depth + 1) (r + 1) (second f r) (omega arith) u (omega arith) (omega arith) (p .one))
                 (λ q u. parts-fit fuel q (depth + 1) (second f r) (next f r) (omega arith) u (omega arith) (omega arith) (p .two)) rest
             | no j ↦ elim (ℕᴺ-discrete (fields-at f r .kind) 7) [
               | yes k ↦
                   let s = shallow depth r end (p .tests) (omega arith) (omega arith) in
-                  loop-fits (arrays-of f) most depth (omega arith) (parted .loop depth r end m g k .1) levels d
+                  loop-fits (layout-of f) most depth (omega arith) (parted .loop depth r end m g k .1) levels d
                   (λ q u. parts-fit fuel q (depth + 1) (r + 1) (second f r) (omega arith) u (omega arith) (omega arith) (p .one)) rest
               | no k ↦ parted .other levels depth r end d e l m g j k rest
             ]
@@ -133,13 +133,13 @@ module _ (f : List ℕ) (kind : kind-of f ≡ 1) (b low most : ℕ) (enough : 8 
     ]
 
     -- the records of a good block that stands inside no other
-    body-fits : (r end : ℕ) → low ≤ r → Good f b 0 r end → block-fits (arrays-of f) most (block r end) ≡ true
+    body-fits : (r end : ℕ) → low ≤ r → Good f b 0 r end → block-fits (layout-of f) most (block r end) ≡ true
     body-fits r end l g = parts-fit end most 0 r end (omega arith) (omega arith) (omega arith) l g
 
 -- a file that opens as a declared plan
 module _ (f : List ℕ) (w : Facts f) (kind : kind-of f ≡ 1) where
-  arrays-within : arrays-fit (arrays-of f) ≡ true
-  unfolding arrays-of
+  arrays-within : arrays-fit (layout-of f) ≡ true
+  unfolding lengths-of
   arrays-within =
       let few = w .bounds .header .arrays in
       let lengths = all-table (between 1 4096) (length-at f) (array-count f) (λ a h. let n = w .bounds .lengths a h in in-range 1 4096 _ (n .0) (n .1)) in
@@ -147,7 +147,7 @@ module _ (f : List ℕ) (w : Facts f) (kind : kind-of f ≡ 1) where
 
   -- a pass whose declarations are of the plan's arrays and whose other records fit 8 levels
   abbrev called-fits : Pass → Bool
-  called-fits p = all (λ (d : Declaration). ltb (d .array) (length (arrays-of f))) (p .declarations) && block-fits (arrays-of f) 8 (p .body)
+  called-fits p = all (λ (d : Declaration). ltb (d .array) (length (lengths-of f))) (p .declarations) && block-fits (layout-of f) 8 (p .body)
 
   module _ (b : ℕ) (p : 1 ≤ b) (l : b < body-count f) where
     abbrev until : ℕ
@@ -164,14 +164,14 @@ module _ (f : List ℕ) (w : Facts f) (kind : kind-of f ≡ 1) where
           rw (block-act f r end m (walk-of g) (fields-at f r) refl j k) (and-in _ _ (action-fit f (fields-at f r) (t .fits) (kinds .0) (omega arith)) rest);
     }
 
-    declarations-fit : all (λ (d : Declaration). ltb (d .array) (length (arrays-of f))) (pass-at f b .declarations) ≡ true
+    declarations-fit : all (λ (d : Declaration). ltb (d .array) (length (lengths-of f))) (pass-at f b .declarations) ≡ true
     unfolding pass-at
     declarations-fit = all-table _ _ (declarations-in f b) λ i h.
         let g = pass-good f w kind b p l i (omega arith) in
         let d = pass-declaration f w kind b p l i h in
         declaration-fit f (fields-at f (first-record f b + i)) (good-parts f b 0 _ _ (omega (arith, w .bounds .declared b l, next-record f b l)) g .tests .fits) (d .0) (d .1)
 
-    others-fit : block-fits (arrays-of f) 8 (pass-at f b .body) ≡ true
+    others-fit : block-fits (layout-of f) 8 (pass-at f b .body) ≡ true
     others-fit = rw (pass-body f w kind b p l) (body-fits f kind b until 8 (omega arith) (block-between f) pass-parted until _ (omega arith) (rw (next-record f b l) at (pass-good f w kind b p l (declarations-in f b) (omega arith))))
 
     pass-fits : called-fits (pass-at f b) ≡ true
@@ -192,14 +192,14 @@ module _ (f : List ℕ) (w : Facts f) (kind : kind-of f ≡ 1) where
     loop = λ depth r end m g k. (0, ap (expand passes) (body0-loop f r end m (walk-of g) (fields-at f r) refl k));
     other = λ levels depth r end d e h m g j k rest.
         let called = pass-of passes (fields-at f r .p) in
-        let fit = and-out (all (λ (c : Declaration). ltb (c .array) (length (arrays-of f))) (called .declarations)) (block-fits (arrays-of f) 8 (called .body)) (all-called called-fits refl passes (fields-at f r .p) passes-fit) in
+        let fit = and-out (all (λ (c : Declaration). ltb (c .array) (length (lengths-of f))) (called .declarations)) (block-fits (layout-of f) 8 (called .body)) (all-called called-fits refl passes (fields-at f r .p) passes-fit) in
         rw (ap (expand passes) (body0-call f r end m (walk-of g) (fields-at f r) refl j k))
-        (declared-fits (arrays-of f) (called .declarations) _ levels (fit .0) (then-fits (arrays-of f) (called .body) _ levels (more-levels (arrays-of f) (called .body) 8 levels (omega arith) (fit .1)) rest));
+        (declared-fits (layout-of f) (called .declarations) _ levels (fit .0) (then-fits (layout-of f) (called .body) _ levels (more-levels (layout-of f) (called .body) 8 levels (omega arith) (fit .1)) rest));
   }
 
-  block-within : block-fits (arrays-of f) 16 (expansion-of f .body) ≡ true
+  block-within : block-fits (layout-of f) 16 (expansion-of f .body) ≡ true
   block-within =
-      numbered-fits (arrays-of f) 0 (expand passes (declared-plan-of f .body0)) 16
+      numbered-fits (layout-of f) 0 (expand passes (declared-plan-of f .body0)) 16
       ∙ rw (body0-body f w) (body-fits f kind 0 0 16 (omega arith) (λ r end. expand passes (body0-between f r end)) body0-parted 0 (records-in f 0) (omega arith) (body0-good f w))
 
 pub expansion-fits : (f : List ℕ) → opening f ≡ Accepted → kind-of f ≡ 1 → size (expansion-of f .body) ≤ 1024 → plain-fits (expansion-of f) ≡ true

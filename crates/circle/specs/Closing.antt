@@ -9,12 +9,12 @@ use Rattle.model.specs.declared.Verdict.{Verdict}
 use Rattle.model.specs.declared.Record.{Record}
 use Rattle.model.specs.declared.Cell.{Cell}
 use Rattle.model.specs.declared.Verdict.the-variants.{Accepted, Stopped, Refused}
-use Rattle.model.specs.Sides.{Side, at, cells, Cells, within}
+use Rattle.model.specs.Sides.{Side, at, cell-count, Cells, within}
 use Rattle.model.specs.Effects.{read}
 use Rattle.model.specs.Blocks.{Block, act}
 use Rattle.model.specs.Runs.{Config, Ending, finished, Run, Ends}
 use Rattle.model.specs.Demand.{latest-write, moved-cells, Moves}
-use Rattle.reading.specs.Bytes.{arrays-of}
+use Rattle.reading.specs.Bytes.{layout-of}
 use Rattle.format.specs.Plans.{declared-plan-of}
 use Rattle.files.specs.Expansions.{expansion-of}
 use Rattle.model.specs.declared.End.{End}
@@ -26,12 +26,12 @@ pub record Adds (f choices : List ℕ) (after : Lent) : Type 0 where
   pub config : Config
   pub ends : Ends (expansion-of f) (choices-of choices) config finished
   pub moved : Moves (declared-plan-of f) (choices-of choices) config
-  pub adds : after .tally .moved ≡ moved-cells (arrays-of f) (moved .made)
+  pub adds : after .tally .moved ≡ moved-cells (layout-of f) (moved .made)
 
 -- numbers 19 and 20 do not hold: the memories are long enough, and the choices are at most 65,536
 abbrev pub Roomy : List ℕ → List ℕ → Lent → Type 0
 Roomy f choices before =
-    let n = cells (arrays-of f) in
+    let n = cell-count (layout-of f) in
     (n ≤ length (before .host)) × (n ≤ length (before .card)) × (n ≤ length (before .latest)) × (length choices ≤ 65536)
 
 -- done, or "22 choices spent (record)"
@@ -46,13 +46,13 @@ pub record Kept (f choices : List ℕ) (before after : Lent) : Type 0 where
   pub config : Config
   pub ending : Ending
   pub ends : Ends (expansion-of f) (choices-of choices) config ending
-  pub holds : after ≡ holding (arrays-of f) config before
+  pub holds : after ≡ holding (layout-of f) config before
   -- each cell of the lent memories is current on some side
-  pub current : (c : ℕ) → c < cells (arrays-of f) →
+  pub current : (c : ℕ) → c < cell-count (layout-of f) →
       (getD (after .host) c 0 ≡ getD (after .latest) c 0) ⊎ (getD (after .card) c 0 ≡ getD (after .latest) c 0)
   -- each read that the run came to got, in each of its cells, the stamp of the latest write
   pub reads : (k : Config) → Run (expansion-of f) (choices-of choices) k → (r : ℕ) (s : Side) (x : Cells) (b : Block) → k .left ≡ act r (read s x) b →
-      (c : ℕ) → c < cells (arrays-of f) → within (arrays-of f) x c ≡ true → k .state .held s c ≡ at (latest-write (arrays-of f) (k .history) c)
+      (c : ℕ) → c < cell-count (layout-of f) → within (layout-of f) x c ≡ true → k .state .held s c ≡ at (latest-write (layout-of f) (k .history) c)
 
 -- what is claimed of a run of the expansion's file, whatever the choices and the lent memories
 pub record ExpansionRun (f choices : List ℕ) (before after : Lent) (answer : End) : Type 0 where

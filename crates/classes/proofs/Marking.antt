@@ -9,9 +9,9 @@ use lib.Dec.{eqb, leb, ltb}
 use lib.ListN.{length, length-set, getD, set}
 use lib.Seq.{getD-set-same, getD-set-other}
 use borrow.Author.Tests.{eqb-true, le-leb}
-use Rattle.model.specs.Sides.{length-of, first-of}
+use Rattle.model.specs.Sides.{span-of}
 use Rattle.reading.specs.declared.Fields.{Fields}
-use Rattle.reading.specs.Bytes.{first-arm, second-arm, array-count, arrays-of, record-count, fields-at}
+use Rattle.reading.specs.Bytes.{first-arm, second-arm, array-count, layout-of, record-count, fields-at, lengths-of}
 use Rattle.format.specs.Inner.Walks.{Plain, Walkable}
 use Rattle.reading.proofs.Tables.{first-rises, next-cell, all-cells}
 use Rattle.format.proofs.Walking.{opened-facts, steps}
@@ -47,7 +47,7 @@ pub record Edges (f : List ℕ) (x : Fields) : Type 0 where
   pub array : x .array < array-count f
   pub few : array-count f ≤ 32
   pub order : x .p < x .q
-  pub inside : first-of (arrays-of f) (x .array) + x .q ≤ 4096
+  pub inside : span-of (layout-of f) (x .array) .first + x .q ≤ 4096
 
 module _ (f : List ℕ) (bodies : ℕ) (w : Plain f bodies) (r : ℕ) (h : r < record-count f) where
   pub edges : (x : Fields) → x ≡ fields-at f r → x .kind ≤ 3 → Edges f x
@@ -56,7 +56,7 @@ module _ (f : List ℕ) (bodies : ℕ) (w : Plain f bodies) (r : ℕ) (h : r < r
       let b = begins f (record-count f) (record-count f) 0 (record-count f) (plain-walk f o (w .kind)) (omega arith) (omega arith) r (omega arith) h in
       let n = here f bodies r (b .end) w (b .less) (b .below) (b .walk) x e in
       let t = cells-fit f x (n .steps .fits) (n .low) k in
-      let a : first-of (arrays-of f) (suc (x .array)) ≤ first-of (arrays-of f) (array-count f) = first-rises (arrays-of f) _ _ (omega (arith, t .0 .1)) in
+      let a : span-of (layout-of f) (suc (x .array)) .first ≤ span-of (layout-of f) (array-count f) .first = first-rises (lengths-of f) _ _ (omega (arith, t .0 .1)) in
       record {
         array = t .0 .1;
         few = o .bounds .header .arrays .1;
@@ -90,11 +90,11 @@ module _ (f : List ℕ) (m : List ℕ) (r : ℕ) (x : Fields) (e : x ≡ fields-
     ];
   }
 
-  pub marked-more : (a b : ℕ) → a < 4097 → b < 4097 → a ≡ first-of (arrays-of f) (x .array) + x .p → b ≡ first-of (arrays-of f) (x .array) + x .q →
+  pub marked-more : (a b : ℕ) → a < 4097 → b < 4097 → a ≡ span-of (layout-of f) (x .array) .first + x .p → b ≡ span-of (layout-of f) (x .array) .first + x .q →
       Marked f (r + 1) (set (set m a 1) b 1)
   marked-more a b ha hb ea eb = record { size = simp length-set (h .size); alike = alike }
     where
-      alike : (array offset : ℕ) → suc offset < length-of (arrays-of f) array → (getD (set (set m a 1) b 1) (cell-at f array (suc offset)) 0 ≡ 1 → ⊥) →
+      alike : (array offset : ℕ) → suc offset < span-of (layout-of f) array .length → (getD (set (set m a 1) b 1) (cell-at f array (suc offset)) 0 ≡ 1 → ⊥) →
           (k : ℕ) → k < r + 1 → covers (fields-at f k) array (suc offset) ≡ covers (fields-at f k) array offset
       alike array offset l n k i =
           let c = cell-at f array (suc offset) in

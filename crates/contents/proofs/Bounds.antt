@@ -10,9 +10,9 @@ use lib.ListN.{length}
 use borrow.Author.Tests.{ltb-false, eqb-true, not-false}
 use Rattle.model.proofs.Booleans.{or-none, or-out, and-out}
 use Rattle.model.specs.declared.Verdict.the-variants.{Accepted}
-use Rattle.model.specs.Sides.{cells, first-of}
+use Rattle.model.specs.Sides.{cell-count, span-of}
 use Rattle.model.specs.Rows.{first, each}
-use Rattle.reading.specs.Bytes.{kind-of, array-count, body-count, length-at, arrays-of, records-in, declarations-in, last-of-entry, sizes-of, first-record, record-count, bodies-at, between}
+use Rattle.reading.specs.Bytes.{kind-of, array-count, body-count, length-at, layout-of, records-in, declarations-in, last-of-entry, sizes-of, first-record, record-count, bodies-at, between, lengths-of}
 use Rattle.frame.specs.Frame.{header-fits, header-rows, tail-rows}
 use Rattle.contents.specs.Contents.{array-rows, body-rows, contents-rows, front-rows}
 use Rattle.reading.proofs.Ranges.{of-range}
@@ -30,7 +30,7 @@ pub record Header (f : List ℕ) : Type 0 where
 pub record Bounds (f : List ℕ) : Type 0 where
   pub header : Header f
   pub lengths : (a : ℕ) → a < array-count f → (1 ≤ length-at f a) × (length-at f a ≤ 4096)
-  pub cells-below : cells (arrays-of f) ≤ 4096
+  pub cells-below : cell-count (layout-of f) ≤ 4096
   pub declared : (b : ℕ) → b < body-count f → declarations-in f b ≤ records-in f b
   pub undeclared : declarations-in f 0 ≡ 0
   pub records : record-count f ≤ 1024
@@ -55,14 +55,14 @@ module _ (f : List ℕ) where
         plain = λ k. ⊎-elim (λ u. let v : kind-of f ≡ 1 = eqb-true _ _ u in absurd (omega arith)) (eqb-true _ _) (or-out (eqb (kind-of f) 1) _ (w₂ .1));
       }
 
-  array-bounds : (a : ℕ) → Accepted ≡ first (array-rows f a) → ((1 ≤ length-at f a) × (length-at f a ≤ 4096)) × (first-of (arrays-of f) (suc a) ≤ 4096)
+  array-bounds : (a : ℕ) → Accepted ≡ first (array-rows f a) → ((1 ≤ length-at f a) × (length-at f a ≤ 4096)) × (span-of (layout-of f) (suc a) .first ≤ 4096)
   unfolding array-rows
   array-bounds a e =
       let w = or-none (not (between 1 4096 (length-at f a))) _ (skipped _ _ _ _ e .0) in
       (of-range 1 4096 _ (not-false _ (w .0)), ltb-false _ _ (w .1))
 
-  cells-bound : (n : ℕ) → Accepted ≡ first (each n (array-rows f)) → first-of (arrays-of f) n ≤ 4096
-  cells-bound zero e = omega (arith, first-zero (arrays-of f))
+  cells-bound : (n : ℕ) → Accepted ≡ first (each n (array-rows f)) → span-of (layout-of f) n .first ≤ 4096
+  cells-bound zero e = omega (arith, first-zero (lengths-of f))
   cells-bound (suc n) e = array-bounds n (each-passed (array-rows f) (suc n) n e (omega arith)) .1
 
   body-bounds : (b : ℕ) → Accepted ≡ first (body-rows f b) → (declarations-in f b ≤ records-in f b) × ((eqb b 0 && not (eqb (declarations-in f b) 0)) ≡ false) × (first-record f (suc b) ≤ 1024)

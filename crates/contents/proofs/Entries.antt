@@ -12,9 +12,9 @@ use borrow.Author.Tests.{lt-ltb, le-ltb, ltb-true, ltb-false, not-true, not-fals
 use Rattle.model.proofs.Booleans.{or-none, or-out, or-left, or-right}
 use Rattle.model.specs.declared.Verdict.{Verdict}
 use Rattle.model.specs.declared.Verdict.the-variants.{Accepted, Refused}
-use Rattle.model.specs.Sides.{first-of}
+use Rattle.model.specs.Sides.{span-of}
 use Rattle.model.specs.Rows.{Row, row, first, each}
-use Rattle.reading.specs.Bytes.{array-count, body-count, length-at, arrays-of, records-in, declarations-in, last-of-entry, first-record, between}
+use Rattle.reading.specs.Bytes.{array-count, body-count, length-at, layout-of, records-in, declarations-in, last-of-entry, first-record, between}
 use Rattle.contents.specs.Contents.{array-rows, body-rows}
 use Rattle.model.proofs.Rows.{refused, holds, skips, empty, each-stop}
 use Rattle.reading.proofs.Ranges.{in-range, out-of-range}
@@ -43,11 +43,11 @@ room-left k m n h = elim (decLt m (k + n)) [
 pub record ArrayEntry (f : List ℕ) (a n cells : ℕ) : Type 0 where
   pub one : a < array-count f
   pub size : n ≡ length-at f a
-  pub before : cells ≡ first-of (arrays-of f) a
+  pub before : cells ≡ span-of (layout-of f) a .first
   pub low : cells ≤ 4096
 
 module _ (f : List ℕ) (a n cells : ℕ) (x : ArrayEntry f a n cells) where
-  pub cells-more : cells + n ≡ first-of (arrays-of f) (a + 1)
+  pub cells-more : cells + n ≡ span-of (layout-of f) (a + 1) .first
   cells-more = rw (add-one, next-cell f a (x .one), ← x .before, ← x .size)
 
   abbrev bad-array : Bool
@@ -56,7 +56,7 @@ module _ (f : List ℕ) (a n cells : ℕ) (x : ArrayEntry f a n cells) where
   abbrev array-row : Bool
   array-row = not (between 1 4096 n) || ltb 4096 (cells + n)
 
-  row-is : array-row ≡ (not (between 1 4096 (length-at f a)) || ltb 4096 (first-of (arrays-of f) (suc a)))
+  row-is : array-row ≡ (not (between 1 4096 (length-at f a)) || ltb 4096 (span-of (layout-of f) (suc a) .first))
   row-is = rw (next-cell f a (x .one), ← x .before, ← x .size)
 
   pub array-stop : bad-array ≡ true → Refused 4 a ≡ first (array-rows f a)

@@ -8,8 +8,8 @@ use native.Mathlib.Omega.{arith}
 use lib.Dec.{ltb, leb}
 use lib.ListN.{getD}
 use borrow.Author.Tests.{lt-ltb, le-leb}
-use Rattle.model.specs.Sides.{first-of}
-use Rattle.reading.specs.Bytes.{array-count, body-count, arrays-of, records-in, declarations-in, sizes-of, first-record, record-count}
+use Rattle.model.specs.Sides.{span-of}
+use Rattle.reading.specs.Bytes.{array-count, body-count, layout-of, records-in, declarations-in, sizes-of, first-record, record-count}
 use Rattle.reading.specs.Inner.Places.{Inside}
 use Rattle.reading.proofs.Tables.{getD-table, first-rises, next-record}
 use Rattle.contents.specs.declared.Opened.{Opened}
@@ -28,8 +28,8 @@ pub record BodyAt (f : List ℕ) (o : Opened) (b : ℕ) : Type 0 where
   pub inside : Inside f (o .offset) (record-count f)
 
 module _ (f : List ℕ) (o : Opened) (e : o ≡ found f) (w : Bounds f) where
-  pub array-start : (a : ℕ) → a ≤ array-count f → getD (o .«array_starts») a 0 ≡ first-of (arrays-of f) a
-  array-start a h = rw (e, getD-table (λ k. cond (leb k (array-count f)) (first-of (arrays-of f) k) 0) 33 a 0 (omega (arith, w .header .arrays)), le-leb a (array-count f) h)
+  pub array-start : (a : ℕ) → a ≤ array-count f → getD (o .«array_starts») a 0 ≡ span-of (layout-of f) a .first
+  array-start a h = rw (e, getD-table (λ k. cond (leb k (array-count f)) (span-of (layout-of f) k .first) 0) 33 a 0 (omega (arith, w .header .arrays)), le-leb a (array-count f) h)
 
   pub body-start : (b : ℕ) → b ≤ body-count f → getD (o .«body_starts») b 0 ≡ first-record f b
   body-start b h = rw (e, getD-table (λ k. cond (leb k (body-count f)) (first-record f k) 0) 33 b 0 (omega (arith, w .header .bodies)), le-leb b (body-count f) h)

@@ -4,15 +4,15 @@ use mathlib.Core.Bool.{not, _&&_, _||_}
 use mathlib.Core.List.{List, [], _∷_, _++_}
 use lib.ListN.{length}
 use lib.Dec.{ltb, eqb}
-use Rattle.model.specs.Sides.{first-of}
+use Rattle.model.specs.Sides.{span-of}
 use Rattle.model.specs.Rows.{Row, row, each}
-use Rattle.reading.specs.Bytes.{array-count, body-count, length-at, arrays-of, records-in, declarations-in, last-of-entry, first-record, bodies-at, between}
+use Rattle.reading.specs.Bytes.{array-count, body-count, length-at, layout-of, records-in, declarations-in, last-of-entry, first-record, bodies-at, between}
 use Rattle.frame.specs.Frame.{header-rows, tail-rows}
 
 -- CONTENTS. "4 array length or their total (place: array)": a length is "1 to 4,096, together at most 4,096"
 unfoldable pub array-rows : List ℕ → ℕ → List Row
 array-rows f a =
-    row (not (between 1 4096 (length-at f a)) || ltb 4096 (first-of (arrays-of f) (suc a))) 4 a
+    row (not (between 1 4096 (length-at f a)) || ltb 4096 (span-of (layout-of f) (suc a) .first)) 4 a
     ∷ []
 
 -- "5 body entry: fourth byte not zero, more declarations than records, declarations in body 0, total too large (place: body)"

@@ -5,9 +5,9 @@ use mathlib.Core.List.{List}
 use lib.Dec.{ltb, leb}
 use Rattle.model.specs.declared.Verdict.{Verdict}
 use Rattle.model.specs.declared.Verdict.the-variants.{Accepted, Stopped, Refused}
-use Rattle.model.specs.Sides.{cells, first-of}
+use Rattle.model.specs.Sides.{cell-count, span-of}
 use Rattle.contents.specs.declared.Opened.{Opened}
-use Rattle.reading.specs.Bytes.{kind-of, array-count, body-count, table, arrays-of, declarations-in, first-record, record-count, bodies-at}
+use Rattle.reading.specs.Bytes.{kind-of, array-count, body-count, table, layout-of, declarations-in, first-record, record-count, bodies-at}
 
 -- a refusal finds nothing
 abbrev pub nothing-found : Verdict → Opened
@@ -32,10 +32,10 @@ found f = record {
   kind = kind-of f;
   arrays = array-count f;
   bodies = body-count f;
-  cells = cells (arrays-of f);
+  cells = cell-count (layout-of f);
   records = record-count f;
   offset = bodies-at f;
-  «array_starts» = table (λ a. cond (leb a (array-count f)) (first-of (arrays-of f) a) 0) 33;
+  «array_starts» = table (λ a. cond (leb a (array-count f)) (span-of (layout-of f) a .first) 0) 33;
   «body_starts» = table (λ b. cond (leb b (body-count f)) (first-record f b) 0) 33;
   declarations = table (λ b. cond (ltb b (body-count f)) (declarations-in f b) 0) 32;
 }

@@ -2,12 +2,13 @@
 use mathlib.Core.Path.{_≡_, refl}
 use mathlib.Core.List.{List, [], _∷_}
 use Prim.Native.Nat.{ℕ}
+use Rattle.model.specs.Lists.{sum-before}
 use Rattle.model.specs.declared.Verdict.the-variants.{Accepted}
-use Rattle.model.specs.Sides.{card, first-of}
+use Rattle.model.specs.Sides.{card}
 use Rattle.model.specs.Effects.{read}
 use Rattle.model.specs.Blocks.{Block, Plan}
 use Rattle.model.specs.Rows.{first, each}
-use Rattle.reading.specs.Bytes.{u16-at, table, length-at, arrays-of, entry-at, sizes-of, fields-at, first-arm, second-arm}
+use Rattle.reading.specs.Bytes.{u16-at, table, length-at, entry-at, sizes-of, fields-at, first-arm, second-arm, lengths-of}
 use Rattle.sums.specs.Sums.{plain-sum, weighted-sum, check-bytes}
 use Rattle.frame.specs.Frame.{header-fits, header-rows, checks-fit, tail-rows}
 use Rattle.contents.specs.Contents.{array-rows, body-rows, contents-rows, front-rows}
@@ -22,14 +23,14 @@ bytes : List ℕ
 bytes = 0x02 ∷ 0x01 ∷ 0x01 ∷ 0x00 ∷ 0x01 ∷ 0x00 ∷ 0x01 ∷ 0x00 ∷ 0x00 ∷ 0x00 ∷ 0x01 ∷ 0x01 ∷ 0x00 ∷ 0x00 ∷ 0x00 ∷ 0x00 ∷ 0x01 ∷ 0x00 ∷ 0x09 ∷ 0x3B ∷ []
 
 plan : Plan
-plan = record { arrays = 1 ∷ []; body = Block.act 0 (read card (record { array = 0; p = 0; q = 1 })) Block.done }
+plan = record { layout = record { lengths = 1 ∷ [] }; body = Block.act 0 (read card (record { array = 0; p = 0; q = 1 })) Block.done }
 
 opens : opening bytes ≡ Accepted
-unfolding bytes first each u16-at length-at table arrays-of entry-at sizes-of fields-at first-of plain-sum weighted-sum header-fits header-rows array-rows body-rows contents-rows checks-fit tail-rows fields-fit allowed first-arm second-arm deepest record-rows block-rows records-rows front-rows open-rows opening
+unfolding bytes first each u16-at length-at table lengths-of entry-at sizes-of fields-at sum-before plain-sum weighted-sum header-fits header-rows array-rows body-rows contents-rows checks-fit tail-rows fields-fit allowed first-arm second-arm deepest record-rows block-rows records-rows front-rows open-rows opening
 opens = refl
 
 is-plan : plan-of bytes ≡ plan
-unfolding bytes plan u16-at length-at table arrays-of entry-at sizes-of fields-at first-of first-arm second-arm action-of block-of plan-of
+unfolding bytes plan u16-at length-at table lengths-of entry-at sizes-of fields-at sum-before first-arm second-arm action-of block-of plan-of
 is-plan = refl
 
 is-file : plain-file plan ≡ bytes

@@ -7,12 +7,13 @@ use native.Mathlib.Omega.{arith}
 use lib.ListN.{length, length-map}
 use lib.Dec.{ltb, leb}
 use borrow.Author.Tests.{ltb-true, leb-true}
-use Rattle.model.specs.Lists.{All}
-use Rattle.model.specs.Sides.{Side, host, card, Arrays, Cells, cells, length-of}
+use Rattle.model.specs.Lists.{All, sum}
+use Rattle.model.specs.Sides.{Side, host, card, Cells, span-of, Layout, cell-count}
 use Rattle.model.specs.Effects.{Action, read, write, copy, need, mark}
 use Rattle.model.specs.Blocks.{Block, size, Plan}
 use Rattle.model.specs.Judging.{Mode, R, W, RW, Declaration, Pass, Body0, DeclaredPlan}
 use Rattle.model.proofs.Booleans.{and-out}
+use Rattle.model.proofs.Numbering.{array-ends}
 use Rattle.reading.specs.declared.Fields.{Fields}
 use Rattle.sums.specs.Sums.{check-bytes}
 use Rattle.reading.specs.Bytes.{between}
@@ -68,16 +69,16 @@ checks-small : (s : List ℕ) → Bytes (check-bytes s)
 unfolding check-bytes
 checks-small s = (omega arith, (omega arith, tt))
 
-file-bytes : (kind : ℕ) (arrays : Arrays) (bodies : List Body) → kind < 256 → length arrays < 256 → length bodies < 256 → All (λ n. n < 65536) arrays → All Told bodies → Bytes (file kind arrays bodies)
+file-bytes : (kind : ℕ) (layout : Layout) (bodies : List Body) → kind < 256 → length (layout .lengths) < 256 → length bodies < 256 → All (λ n. n < 65536) (layout .lengths) → All Told bodies → Bytes (file kind layout bodies)
 unfolding file
-file-bytes kind arrays bodies k n m lengths told =
-    let lengths-fit = joined-bytes (λ x. x < 65536) u16-bytes u16-fits arrays lengths in
+file-bytes kind layout bodies k n m lengths told =
+    let lengths-fit = joined-bytes (λ x. x < 65536) u16-bytes u16-fits (layout .lengths) lengths in
     let entries-fit = joined-bytes Told entry-bytes entry-fits bodies told in
-    let contents = bytes-append (joined u16-bytes arrays) (joined entry-bytes bodies) lengths-fit entries-fit in
+    let contents = bytes-append (joined u16-bytes (layout .lengths)) (joined entry-bytes bodies) lengths-fit entries-fit in
     let bodies-fit = joined-bytes Told (λ b. joined record-bytes (b .records)) body-fits bodies told in
-    let summed = front kind arrays bodies ++ joined (λ (b : Body). joined record-bytes (b .records)) bodies in
+    let summed = front kind layout bodies ++ joined (λ (b : Body). joined record-bytes (b .records)) bodies in
     bytes-append summed (check-bytes summed)
-    (bytes-append (front kind arrays bodies) (joined (λ (b : Body). joined record-bytes (b .records)) bodies) (k, (n, (m, (omega arith, contents)))) bodies-fit)
+    (bytes-append (front kind layout bodies) (joined (λ (b : Body). joined record-bytes (b .records)) bodies) (k, (n, (m, (omega arith, contents)))) bodies-fit)
     (checks-small summed)
 
 side-small : (s : Side) → side-number s < 256
@@ -90,71 +91,69 @@ mode-small W = omega arith
 mode-small RW = omega arith
 
 -- an array is no longer than all arrays together
-length-small : (arrays : Arrays) (a : ℕ) → length-of arrays a ≤ cells arrays
-length-small [] a = omega arith
-length-small (n ∷ arrays) zero = omega arith
-length-small (n ∷ arrays) (suc a) = omega (arith, length-small arrays a)
+length-small : (layout : Layout) (a : ℕ) → span-of layout a .length ≤ cell-count layout
+length-small layout a = omega (arith, array-ends layout a)
 
-lengths-small : (arrays : Arrays) → cells arrays ≤ 4096 → All (λ n. n < 65536) arrays
+lengths-small : (l : List ℕ) → sum l ≤ 4096 → All (λ n. n < 65536) l
 lengths-small [] h = tt
-lengths-small (n ∷ arrays) h = (omega arith, lengths-small arrays (omega arith))
+lengths-small (n ∷ l) h = (omega arith, lengths-small l (omega arith))
 
 small : (kind side array p q : ℕ) → kind < 256 → side < 256 → array < 256 → p < 65536 → q < 65536 → Small (fields kind side array p q)
 small kind side array p q h0 h1 h2 h3 h4 = record { kind = h0; side = h1; array = h2; last = omega arith; p = h3; q = h4 }
 
-module _ (arrays : Arrays) (few : length arrays ≤ 32) (total : cells arrays ≤ 4096) where
-  cells-small : (kind : ℕ) (s : Side) (x : Cells) → kind < 256 → cells-fit arrays x ≡ true → Small (fields kind (side-number s) (x .array) (x .p) (x .q))
+module _ (layout : Layout) (few : length (layout .lengths) ≤ 32) (total : cell-count layout ≤ 4096) where
+  cells-small : (kind : ℕ) (s : Side) (x : Cells) → kind < 256 → cells-fit layout x ≡ true → Small (fields kind (side-number s) (x .array) (x .p) (x .q))
   cells-small kind s x k e =
-      let h = and-out (ltb (x .array) (length arrays)) (ltb (x .p) (x .q) && leb (x .q) (length-of arrays (x .array))) e in
-      let h′ = and-out (ltb (x .p) (x .q)) (leb (x .q) (length-of arrays (x .array))) (h .1) in
-      let a : x .array < length arrays = ltb-true _ _ (h .0) in
+      let h = and-out (ltb (x .array) (length (layout .lengths))) (ltb (x .p) (x .q) && leb (x .q) (span-of layout (x .array) .length)) e in
+      let h′ = and-out (ltb (x .p) (x .q)) (leb (x .q) (span-of layout (x .array) .length)) (h .1) in
+      let a : x .array < length (layout .lengths) = ltb-true _ _ (h .0) in
       let p : x .p < x .q = ltb-true _ _ (h′ .0) in
-      let q : x .q ≤ length-of arrays (x .array) = leb-true _ _ (h′ .1) in
-      let n = length-small arrays (x .array) in
+      let q : x .q ≤ span-of layout (x .array) .length = leb-true _ _ (h′ .1) in
+      let n = length-small layout (x .array) in
       small kind (side-number s) (x .array) (x .p) (x .q) k (side-small s) (omega arith) (omega arith) (omega arith)
 
-  array-small : (kind : ℕ) (s : Side) (a : ℕ) → kind < 256 → ltb a (length arrays) ≡ true → Small (fields kind (side-number s) a 0 0)
-  array-small kind s a k e = let h : a < length arrays = ltb-true _ _ e in small kind (side-number s) a 0 0 k (side-small s) (omega arith) (omega arith) (omega arith)
+  array-small : (kind : ℕ) (s : Side) (a : ℕ) → kind < 256 → ltb a (length (layout .lengths)) ≡ true → Small (fields kind (side-number s) a 0 0)
+  array-small kind s a k e = let h : a < length (layout .lengths) = ltb-true _ _ e in small kind (side-number s) a 0 0 k (side-small s) (omega arith) (omega arith) (omega arith)
 
-  action-small : (x : Action) → action-fits arrays x ≡ true → Small (action-fields x)
+  action-small : (x : Action) → action-fits layout x ≡ true → Small (action-fields x)
   action-small (read s x) e = cells-small 1 s x (omega arith) e
   action-small (write s x) e = cells-small 2 s x (omega arith) e
   action-small (copy s x) e = cells-small 3 s x (omega arith) e
   action-small (need s a) e = array-small 4 s a (omega arith) e
   action-small (mark s a) e = array-small 5 s a (omega arith) e
 
-  block-small : (x : Block) (levels : ℕ) → block-fits arrays levels x ≡ true → size x ≤ 1024 → All Small (block-fields x)
+  block-small : (x : Block) (levels : ℕ) → block-fits layout levels x ≡ true → size x ≤ 1024 → All Small (block-fields x)
   block-small Block.done levels e h = tt
   block-small (Block.act _ x t) levels e h =
-      let fit = and-out (action-fits arrays x) (block-fits arrays levels t) e in
+      let fit = and-out (action-fits layout x) (block-fits layout levels t) e in
       (action-small x (fit .0), block-small t levels (fit .1) (omega arith))
   block-small (Block.branch _ x y t) zero e h = absurd (false≢true e)
   block-small (Block.branch _ x y t) (suc levels) e h =
-      let fit = and-out (block-fits arrays levels x) (block-fits arrays levels y && block-fits arrays (suc levels) t) e in
-      let fit′ = and-out (block-fits arrays levels y) (block-fits arrays (suc levels) t) (fit .1) in (
+      let fit = and-out (block-fits layout levels x) (block-fits layout levels y && block-fits layout (suc levels) t) e in
+      let fit′ = and-out (block-fits layout levels y) (block-fits layout (suc levels) t) (fit .1) in (
         small 6 0 0 (size x) (size y) (omega arith) (omega arith) (omega arith) (omega arith) (omega arith),
         all-append Small (block-fields x) (block-fields y ++ block-fields t) (block-small x levels (fit .0) (omega arith))
             (all-append Small (block-fields y) (block-fields t) (block-small y levels (fit′ .0) (omega arith)) (block-small t (suc levels) (fit′ .1) (omega arith))),
       )
   block-small (Block.loop _ x t) zero e h = absurd (false≢true e)
   block-small (Block.loop _ x t) (suc levels) e h =
-      let fit = and-out (block-fits arrays levels x) (block-fits arrays (suc levels) t) e in (
+      let fit = and-out (block-fits layout levels x) (block-fits layout (suc levels) t) e in (
         small 7 0 0 (size x) 0 (omega arith) (omega arith) (omega arith) (omega arith) (omega arith),
         all-append Small (block-fields x) (block-fields t) (block-small x levels (fit .0) (omega arith)) (block-small t (suc levels) (fit .1) (omega arith)),
       )
 
-  declarations-small : (ds : List Declaration) → all (λ (d : Declaration). ltb (d .array) (length arrays)) ds ≡ true → All Small (map declaration-fields ds)
+  declarations-small : (ds : List Declaration) → all (λ (d : Declaration). ltb (d .array) (length (layout .lengths))) ds ≡ true → All Small (map declaration-fields ds)
   declarations-small [] e = tt
   declarations-small (d ∷ ds) e =
-      let fit = and-out (ltb (d .array) (length arrays)) (all (λ (c : Declaration). ltb (c .array) (length arrays)) ds) e in
+      let fit = and-out (ltb (d .array) (length (layout .lengths))) (all (λ (c : Declaration). ltb (c .array) (length (layout .lengths))) ds) e in
       (array-small (mode-kind (d .mode)) (d .side) (d .array) (mode-small (d .mode)) (fit .0), declarations-small ds (fit .1))
 
-  passes-told : (ps : List Pass) → all (pass-fits arrays) ps ≡ true → passes-size ps ≤ 1024 → All Told (map pass-body ps)
+  passes-told : (ps : List Pass) → all (pass-fits layout) ps ≡ true → passes-size ps ≤ 1024 → All Told (map pass-body ps)
   passes-told [] e h = tt
   passes-told (p ∷ ps) e h =
-      let (one, others) = and-out (pass-fits arrays p) (all (pass-fits arrays) ps) e in
+      let (one, others) = and-out (pass-fits layout p) (all (pass-fits layout) ps) e in
       let (few-declarations, fit) = and-out (leb (length (p .declarations)) 255) _ one in
-      let (of-arrays, block-fit) = and-out (all (λ (d : Declaration). ltb (d .array) (length arrays)) (p .declarations)) _ fit in
+      let (of-arrays, block-fit) = and-out (all (λ (d : Declaration). ltb (d .array) (length (layout .lengths))) (p .declarations)) _ fit in
       let told : Told (pass-body p) = record {
         few-declarations = omega (arith, leb-true (length (p .declarations)) 255 few-declarations);
         few-records = omega (arith, pass-count p);
@@ -185,40 +184,40 @@ body0-small last l (Body0.loop x t) (suc levels) e h =
       all-append Small (body0-fields x) (body0-fields t) (body0-small last l x levels (fit .0) (omega arith)) (body0-small last l t (suc levels) (fit .1) (omega arith)),
     )
 
-arrays-small : (arrays : Arrays) → arrays-fit arrays ≡ true → (length arrays ≤ 32) × (cells arrays ≤ 4096)
-arrays-small arrays e =
-    let h = and-out (between 1 32 (length arrays)) (all (between 1 4096) arrays && leb (cells arrays) 4096) e in
-    (within-bounds 1 32 (length arrays) (h .0) .1, leb-true _ _ (and-out (all (between 1 4096) arrays) (leb (cells arrays) 4096) (h .1) .1))
+arrays-small : (layout : Layout) → arrays-fit layout ≡ true → (length (layout .lengths) ≤ 32) × (cell-count layout ≤ 4096)
+arrays-small layout e =
+    let h = and-out (between 1 32 (length (layout .lengths))) (all (between 1 4096) (layout .lengths) && leb (cell-count layout) 4096) e in
+    (within-bounds 1 32 (length (layout .lengths)) (h .0) .1, leb-true _ _ (and-out (all (between 1 4096) (layout .lengths)) (leb (cell-count layout) 4096) (h .1) .1))
 
 pub plain-bytes : (plan : Plan) → plain-fits plan ≡ true → Bytes (plain-file plan)
 plain-bytes plan fits =
-    let (arrays-in, h) = and-out (arrays-fit (plan .arrays)) _ fits in
-    let (block-in, few-records) = and-out (block-fits (plan .arrays) 16 (plan .body)) _ h in
-    let (few, total) = arrays-small (plan .arrays) arrays-in in
+    let (arrays-in, h) = and-out (arrays-fit (plan .layout)) _ fits in
+    let (block-in, few-records) = and-out (block-fits (plan .layout) 16 (plan .body)) _ h in
+    let (few, total) = arrays-small (plan .layout) arrays-in in
     let sized : size (plan .body) ≤ 1024 = leb-true _ _ few-records in
-    file-bytes 2 (plan .arrays) _ (omega arith) (omega arith) (omega arith) (lengths-small (plan .arrays) total) (
+    file-bytes 2 (plan .layout) _ (omega arith) (omega arith) (omega arith) (lengths-small (plan .layout .lengths) total) (
       record {
         few-declarations = omega arith;
         few-records = omega (arith, fields-count (plan .body));
-        small = block-small (plan .arrays) few total (plan .body) 16 block-in sized;
+        small = block-small (plan .layout) few total (plan .body) 16 block-in sized;
       },
       tt,
     )
 
 pub declared-bytes : (plan : DeclaredPlan) → declared-fits plan ≡ true → Bytes (declared-file plan)
 declared-bytes plan fits =
-    let (arrays-in, h) = and-out (arrays-fit (plan .arrays)) _ fits in
+    let (arrays-in, h) = and-out (arrays-fit (plan .layout)) _ fits in
     let (few-passes, h′) = and-out (leb (length (plan .passes)) 31) _ h in
     let (body0-in, h″) = and-out (body0-fits (length (plan .passes)) 8 (plan .body0)) _ h′ in
-    let (passes-in, few-records) = and-out (all (pass-fits (plan .arrays)) (plan .passes)) _ h″ in
-    let (few, total) = arrays-small (plan .arrays) arrays-in in
+    let (passes-in, few-records) = and-out (all (pass-fits (plan .layout)) (plan .passes)) _ h″ in
+    let (few, total) = arrays-small (plan .layout) arrays-in in
     let last : length (plan .passes) ≤ 31 = leb-true _ _ few-passes in
     let sized : size0 (plan .body0) + passes-size (plan .passes) ≤ 1024 = leb-true _ _ few-records in
-    file-bytes 1 (plan .arrays) _ (omega arith) (omega arith) (omega (arith, length-map (plan .passes) pass-body)) (lengths-small (plan .arrays) total) (
+    file-bytes 1 (plan .layout) _ (omega arith) (omega arith) (omega (arith, length-map (plan .passes) pass-body)) (lengths-small (plan .layout .lengths) total) (
       record {
         few-declarations = omega arith;
         few-records = omega (arith, fields-count0 (plan .body0));
         small = body0-small (length (plan .passes)) last (plan .body0) 8 body0-in (omega arith);
       },
-      passes-told (plan .arrays) few total (plan .passes) passes-in (omega arith),
+      passes-told (plan .layout) few total (plan .passes) passes-in (omega arith),
     )

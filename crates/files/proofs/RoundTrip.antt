@@ -35,8 +35,8 @@ module _ (plan : Plan) where
   abbrev plain : List ℕ
   plain = plain-file plan
 
-  plain-laid : Laid plain 2 (plan .arrays) (plain-body ∷ [])
-  plain-laid = laid 2 (plan .arrays) (plain-body ∷ [])
+  plain-laid : Laid plain 2 (plan .layout) (plain-body ∷ [])
+  plain-laid = laid 2 (plan .layout) (plain-body ∷ [])
 
   pub plain-kind : kind-of (plain-file plan) ≡ 2
   plain-kind = plain-laid .kind-is
@@ -45,7 +45,7 @@ module _ (plan : Plan) where
   plain-count : record-count plain ≡ size (plan .body)
   plain-count = plain-laid .count-is ∙ omega (arith, fields-count (plan .body))
 
-  pub plain-length : length (plain-file plan) ≡ 4 + 2 * length (plan .arrays) + 4 + 8 * size (plan .body) + 2
+  pub plain-length : length (plain-file plan) ≡ 4 + 2 * length (plan .layout .lengths) + 4 + 8 * size (plan .body) + 2
   plain-length = omega (arith, plain-laid .long, plain-laid .bodies-start, plain-count)
 
   plain-placed : Placed plain 0 plain-body
@@ -54,22 +54,22 @@ module _ (plan : Plan) where
   plain-held : Holds (fields-at plain) 0 (block-fields (plan .body))
   plain-held = rw (plain-laid .start-is) at (plain-placed .held)
 
-  plain-records : block-fits (plan .arrays) 16 (plan .body) ≡ true → Passes (records-rows plain 0)
+  plain-records : block-fits (plan .layout) 16 (plan .body) ≡ true → Passes (records-rows plain 0)
   unfolding records-rows deepest allowed
   plain-records fits =
       let end : first-record plain 1 ≡ 0 + size (plan .body) = rw (plain-laid .start-is, fields-count (plan .body)) at (plain-placed .next) in
       let deep : deepest plain ≡ 15 = rw (plain-laid .kind-is) in
       rw (end, plain-laid .start-is)
-      (block-walks plain 0 0 (plan .arrays) (plain-laid .arrayed) (λ r x k e. rw (plain-laid .kind-is, e)) (plan .body) 16 0 0 fits (omega arith) (omega arith) plain-held (records-in plain 0))
+      (block-walks plain 0 0 (plan .layout) (plain-laid .arrayed) (λ r x k e. rw (plain-laid .kind-is, e)) (plan .body) 16 0 0 fits (omega arith) (omega arith) plain-held (records-in plain 0))
 
   pub plain-round-trip : plain-fits plan ≡ true → (opening (plain-file plan) ≡ Accepted) × (plan-of (plain-file plan) ≡ numbered-plan plan)
   unfolding plan-of
   plain-round-trip fits =
-      let (arrays-in, h) = and-out (arrays-fit (plan .arrays)) _ fits in
-      let (block-in, few-records) = and-out (block-fits (plan .arrays) 16 (plan .body)) _ h in
+      let (arrays-in, h) = and-out (arrays-fit (plan .layout)) _ fits in
+      let (block-in, few-records) = and-out (block-fits (plan .layout) 16 (plan .body)) _ h in
       let few : size (plan .body) ≤ 1024 = leb-true _ _ few-records in
       let read-back = rw zero-add at (block-reads (fields-at plain) (plan .body) (size (plan .body)) 0 (omega arith) plain-held) in (
-        opens plain 2 (plan .arrays) (plain-body ∷ []) plain-laid refl arrays-in refl refl (omega (arith, fields-count (plan .body)))
+        opens plain 2 (plan .layout) (plain-body ∷ []) plain-laid refl arrays-in refl refl (omega (arith, fields-count (plan .body)))
             (more (record { declared = omega arith; none-first = refl }) none) (more (plain-records block-in) none),
         rw (plain-count, plain-laid .arrays-are, read-back),
       )
@@ -85,8 +85,8 @@ module _ (plan : DeclaredPlan) where
   abbrev declared : List ℕ
   declared = declared-file plan
 
-  declared-laid : Laid declared 1 (plan .arrays) bodies
-  declared-laid = laid 1 (plan .arrays) bodies
+  declared-laid : Laid declared 1 (plan .layout) bodies
+  declared-laid = laid 1 (plan .layout) bodies
 
   pub declared-kind : kind-of (declared-file plan) ≡ 1
   declared-kind = declared-laid .kind-is
@@ -124,18 +124,18 @@ module _ (plan : DeclaredPlan) where
   pub declared-round-trip : declared-fits plan ≡ true → (opening (declared-file plan) ≡ Accepted) × (declared-plan-of (declared-file plan) ≡ numbered-declared plan)
   unfolding declared-plan-of
   declared-round-trip fits =
-      let (arrays-in, h) = and-out (arrays-fit (plan .arrays)) _ fits in
+      let (arrays-in, h) = and-out (arrays-fit (plan .layout)) _ fits in
       let (few-passes, h′) = and-out (leb (length (plan .passes)) 31) _ h in
       let (body0-in, h″) = and-out (body0-fits (length (plan .passes)) 8 (plan .body0)) _ h′ in
-      let (passes-in, few-records) = and-out (all (pass-fits (plan .arrays)) (plan .passes)) _ h″ in
+      let (passes-in, few-records) = and-out (all (pass-fits (plan .layout)) (plan .passes)) _ h″ in
       let few-bodies : length bodies ≤ 32 = omega (arith, leb-true (length (plan .passes)) 31 few-passes, length-map (plan .passes) pass-body) in
       let few : size0 (plan .body0) + passes-size (plan .passes) ≤ 1024 = leb-true _ _ few-records in
       let records-are : records-in declared 0 ≡ size0 (plan .body0) = placed0 .entry .records-are ∙ fields-count0 (plan .body0) in
       let read-back = rw zero-add at (body0-reads (fields-at declared) (plan .body0) (size0 (plan .body0)) 0 (omega arith) held0) in (
-        opens declared 1 (plan .arrays) bodies declared-laid refl arrays-in (and-in _ _ (le-leb 1 (length bodies) (omega arith)) (le-leb (length bodies) 32 few-bodies)) refl
+        opens declared 1 (plan .layout) bodies declared-laid refl arrays-in (and-in _ _ (le-leb 1 (length bodies) (omega arith)) (le-leb (length bodies) 32 few-bodies)) refl
             (omega (arith, fields-count0 (plan .body0), passes-count (plan .passes)))
             (more (record { declared = omega arith; none-first = refl }) (passes-entries (plan .passes) 1 refl))
             (more (body0-records body0-in)
-            (passes-walk declared (plan .arrays) (declared-laid .kind-is) (declared-laid .arrayed) (plan .passes) 1 refl passes-in placed-passes)),
+            (passes-walk declared (plan .layout) (declared-laid .kind-is) (declared-laid .arrayed) (plan .passes) 1 refl passes-in placed-passes)),
         rw (records-are, declared-laid .arrays-are, read-back, passes-back),
       )

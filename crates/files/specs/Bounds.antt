@@ -4,7 +4,7 @@ use mathlib.Core.Bool.{Bool, true, false, _&&_}
 use mathlib.Core.List.{List, [], _∷_}
 use lib.ListN.{length}
 use lib.Dec.{ltb, leb}
-use Rattle.model.specs.Sides.{Arrays, cells, length-of, Cells}
+use Rattle.model.specs.Sides.{span-of, Cells, Layout, cell-count}
 use Rattle.model.specs.Effects.{Action, read, write, copy, need, mark}
 use Rattle.model.specs.Blocks.{Block, size, numbered, Plan}
 use Rattle.model.specs.Judging.{Declaration, Pass, Body0, DeclaredPlan}
@@ -17,29 +17,29 @@ all g [] = true
 all g (x ∷ l) = g x && all g l
 
 -- "arrays, 1 to 32", "per array its length .., 1 to 4,096, together at most 4,096"
-abbrev pub arrays-fit : Arrays → Bool
-arrays-fit arrays = between 1 32 (length arrays) && (all (between 1 4096) arrays && leb (cells arrays) 4096)
+abbrev pub arrays-fit : Layout → Bool
+arrays-fit layout = between 1 32 (length (layout .lengths)) && (all (between 1 4096) (layout .lengths) && leb (cell-count layout) 4096)
 
 -- "cells P to Q − 1 of the array, P < Q ≤ its length"
-abbrev pub cells-fit : Arrays → Cells → Bool
-cells-fit arrays x = ltb (x .array) (length arrays) && (ltb (x .p) (x .q) && leb (x .q) (length-of arrays (x .array)))
+abbrev pub cells-fit : Layout → Cells → Bool
+cells-fit layout x = ltb (x .array) (length (layout .lengths)) && (ltb (x .p) (x .q) && leb (x .q) (span-of layout (x .array) .length))
 
 -- the fields of kinds 1 to 5: cells of an array, or the array alone
-abbrev pub action-fits : Arrays → Action → Bool
-action-fits arrays (read s x) = cells-fit arrays x
-action-fits arrays (write s x) = cells-fit arrays x
-action-fits arrays (copy s x) = cells-fit arrays x
-action-fits arrays (need s a) = ltb a (length arrays)
-action-fits arrays (mark s a) = ltb a (length arrays)
+abbrev pub action-fits : Layout → Action → Bool
+action-fits layout (read s x) = cells-fit layout x
+action-fits layout (write s x) = cells-fit layout x
+action-fits layout (copy s x) = cells-fit layout x
+action-fits layout (need s a) = ltb a (length (layout .lengths))
+action-fits layout (mark s a) = ltb a (length (layout .lengths))
 
 -- a block in which branches and loops stand at most `levels` deep: 16 in a plain plan ("inside at most 15 others"), 8 in a body of a declared plan
-abbrev pub block-fits : Arrays → ℕ → Block → Bool
-block-fits arrays levels Block.done = true
-block-fits arrays levels (Block.act r x b) = action-fits arrays x && block-fits arrays levels b
-block-fits arrays zero (Block.branch r x y b) = false
-block-fits arrays (suc levels) (Block.branch r x y b) = block-fits arrays levels x && (block-fits arrays levels y && block-fits arrays (suc levels) b)
-block-fits arrays zero (Block.loop r x b) = false
-block-fits arrays (suc levels) (Block.loop r x b) = block-fits arrays levels x && block-fits arrays (suc levels) b
+abbrev pub block-fits : Layout → ℕ → Block → Bool
+block-fits layout levels Block.done = true
+block-fits layout levels (Block.act r x b) = action-fits layout x && block-fits layout levels b
+block-fits layout zero (Block.branch r x y b) = false
+block-fits layout (suc levels) (Block.branch r x y b) = block-fits layout levels x && (block-fits layout levels y && block-fits layout (suc levels) b)
+block-fits layout zero (Block.loop r x b) = false
+block-fits layout (suc levels) (Block.loop r x b) = block-fits layout levels x && block-fits layout (suc levels) b
 
 -- the same of body 0, whose calls are of bodies "1 to the last"
 abbrev pub body0-fits : ℕ → ℕ → Body0 → Bool
@@ -52,13 +52,13 @@ body0-fits last (suc levels) (Body0.loop x t) = body0-fits last levels x && body
 
 -- a plain plan: "records .. together at most 1,024"
 abbrev pub plain-fits : Plan → Bool
-plain-fits plan = arrays-fit (plan .arrays) && (block-fits (plan .arrays) 16 (plan .body) && leb (size (plan .body)) 1024)
+plain-fits plan = arrays-fit (plan .layout) && (block-fits (plan .layout) 16 (plan .body) && leb (size (plan .body)) 1024)
 
 -- "its declarations (one byte)"
-abbrev pub pass-fits : Arrays → Pass → Bool
-pass-fits arrays p =
+abbrev pub pass-fits : Layout → Pass → Bool
+pass-fits layout p =
     leb (length (p .declarations)) 255
-    && (all (λ (d : Declaration). ltb (d .array) (length arrays)) (p .declarations) && block-fits arrays 8 (p .body))
+    && (all (λ (d : Declaration). ltb (d .array) (length (layout .lengths))) (p .declarations) && block-fits layout 8 (p .body))
 
 -- the records of a pass, its declarations among them
 abbrev pub pass-size : Pass → ℕ
@@ -72,10 +72,10 @@ passes-size (p ∷ ps) = pass-size p + passes-size ps
 -- a declared plan: "bodies, 1 to 32", "records .. together at most 1,024"
 abbrev pub declared-fits : DeclaredPlan → Bool
 declared-fits plan =
-    arrays-fit (plan .arrays)
+    arrays-fit (plan .layout)
     && (leb (length (plan .passes)) 31
     && (body0-fits (length (plan .passes)) 8 (plan .body0)
-    && (all (pass-fits (plan .arrays)) (plan .passes) && leb (size0 (plan .body0) + passes-size (plan .passes)) 1024)))
+    && (all (pass-fits (plan .layout)) (plan .passes) && leb (size0 (plan .body0) + passes-size (plan .passes)) 1024)))
 
 -- "Records are numbered from 0 through all bodies in order": the passes with their records numbered from r on
 abbrev pub numbered-passes : ℕ → List Pass → List Pass
@@ -85,8 +85,8 @@ numbered-passes r (p ∷ ps) =
 
 -- a plan as its file numbers its records
 abbrev pub numbered-plan : Plan → Plan
-numbered-plan plan = record { arrays = plan .arrays; body = numbered 0 (plan .body) }
+numbered-plan plan = record { layout = plan .layout; body = numbered 0 (plan .body) }
 
 -- a declared plan as its file numbers its records: body 0 first, then the passes
 abbrev pub numbered-declared : DeclaredPlan → DeclaredPlan
-numbered-declared plan = record { arrays = plan .arrays; body0 = plan .body0; passes = numbered-passes (size0 (plan .body0)) (plan .passes) }
+numbered-declared plan = record { layout = plan .layout; body0 = plan .body0; passes = numbered-passes (size0 (plan .body0)) (plan .passes) }

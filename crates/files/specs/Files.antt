@@ -2,7 +2,7 @@
 use Prim.Native.Nat.{ℕ, zero, suc, _+_, _/_, _%_}
 use mathlib.Core.List.{List, [], _∷_, _++_, map}
 use lib.ListN.{length}
-use Rattle.model.specs.Sides.{Side, host, card, Arrays}
+use Rattle.model.specs.Sides.{Side, host, card, Layout}
 use Rattle.model.specs.Effects.{Action, read, write, copy, need, mark}
 use Rattle.model.specs.Blocks.{Block, size, Plan}
 use Rattle.model.specs.Judging.{Mode, R, W, RW, Declaration, Pass, Body0, DeclaredPlan}
@@ -81,18 +81,18 @@ module _ {A : Type 0} where
   joined g (x ∷ l) = g x ++ joined g l
 
 -- header and contents
-abbrev pub front : ℕ → Arrays → List Body → List ℕ
-front kind arrays bodies = kind ∷ length arrays ∷ length bodies ∷ 0 ∷ (joined u16-bytes arrays ++ joined entry-bytes bodies)
+abbrev pub front : ℕ → Layout → List Body → List ℕ
+front kind layout bodies = kind ∷ length (layout .lengths) ∷ length bodies ∷ 0 ∷ (joined u16-bytes (layout .lengths) ++ joined entry-bytes bodies)
 
 -- "Then the bodies, body 0 first, eight bytes a record. Last two check bytes"
-unfoldable pub file : ℕ → Arrays → List Body → List ℕ
-file kind arrays bodies =
-    let s = front kind arrays bodies ++ joined (λ (b : Body). joined record-bytes (b .records)) bodies in
+unfoldable pub file : ℕ → Layout → List Body → List ℕ
+file kind layout bodies =
+    let s = front kind layout bodies ++ joined (λ (b : Body). joined record-bytes (b .records)) bodies in
     s ++ check-bytes s
 
 -- the file of a plain plan
 abbrev pub plain-file : Plan → List ℕ
-plain-file plan = file 2 (plan .arrays) (record { declarations = 0; records = block-fields (plan .body) } ∷ [])
+plain-file plan = file 2 (plan .layout) (record { declarations = 0; records = block-fields (plan .body) } ∷ [])
 
 -- a pass: "declarations first .. then kinds 1 to 7"
 abbrev pub pass-body : Pass → Body
@@ -100,4 +100,4 @@ pass-body p = record { declarations = length (p .declarations); records = map de
 
 -- the file of a declared plan
 abbrev pub declared-file : DeclaredPlan → List ℕ
-declared-file plan = file 1 (plan .arrays) (record { declarations = 0; records = body0-fields (plan .body0) } ∷ map pass-body (plan .passes))
+declared-file plan = file 1 (plan .layout) (record { declarations = 0; records = body0-fields (plan .body0) } ∷ map pass-body (plan .passes))

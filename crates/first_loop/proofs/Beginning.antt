@@ -8,9 +8,9 @@ use native.Mathlib.Omega.{arith}
 use lib.Dec.{eqb}
 use borrow.Author.Tests.{eqb-true, eqb-false, eq-eqb, ne-eqb, not-false}
 use Rattle.model.proofs.Booleans.{or-none}
-use Rattle.model.specs.Sides.{length-of}
+use Rattle.model.specs.Sides.{span-of}
 use Rattle.reading.specs.declared.Fields.{Fields}
-use Rattle.reading.specs.Bytes.{kind-of, arrays-of, record-count, fields-at, first-arm}
+use Rattle.reading.specs.Bytes.{kind-of, layout-of, record-count, fields-at, first-arm, lengths-of}
 use Rattle.format.specs.Inner.Walks.{Plain, block-between}
 use Rattle.reading.proofs.Tables.{first-zero, array-length}
 use Rattle.format.proofs.Walking.{opened-facts, steps}
@@ -26,10 +26,10 @@ use Rattle.summary.proofs.Ways.{ran-from, Begins, start-in}
 module _ (f : List ℕ) where
   -- cell 0 is the first cell of array 0
   pub first-cell : 0 ≡ cell-at f 0 0
-  first-cell = omega (arith, first-zero (arrays-of f))
+  first-cell = omega (arith, first-zero (lengths-of f))
 
   -- which has a cell
-  pub first-inside : (bodies : ℕ) → Plain f bodies → 0 < length-of (arrays-of f) 0
+  pub first-inside : (bodies : ℕ) → Plain f bodies → 0 < span-of (layout-of f) 0 .length
   first-inside bodies w =
       let b = opened-facts f (w .opens) .bounds in
       let n = b .header .arrays in

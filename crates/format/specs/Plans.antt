@@ -8,7 +8,7 @@ use Rattle.model.specs.Effects.{Action, read, write, copy, need, mark}
 use Rattle.model.specs.Blocks.{Block, Plan}
 use Rattle.model.specs.Judging.{R, W, RW, Declaration, Pass, Body0, DeclaredPlan}
 use Rattle.reading.specs.declared.Fields.{Fields}
-use Rattle.reading.specs.Bytes.{body-count, table, arrays-of, records-in, declarations-in, first-record, record-count, fields-at, first-arm, second-arm}
+use Rattle.reading.specs.Bytes.{body-count, table, layout-of, records-in, declarations-in, first-record, record-count, fields-at, first-arm, second-arm}
 
 -- "Side 0 is the host, side 1 the card."
 abbrev pub side-of : ℕ → Side
@@ -65,12 +65,12 @@ pass-at f b =
 
 -- the plain plan of a file of kind 2
 unfoldable pub plan-of : List ℕ → Plan
-plan-of f = record { arrays = arrays-of f; body = block-of (record-count f) (fields-at f) 0 (record-count f) }
+plan-of f = record { layout = layout-of f; body = block-of (record-count f) (fields-at f) 0 (record-count f) }
 
 -- the declared plan of a file of kind 1
 unfoldable pub declared-plan-of : List ℕ → DeclaredPlan
 declared-plan-of f = record {
-  arrays = arrays-of f;
+  layout = layout-of f;
   body0 = body0-of (records-in f 0) (fields-at f) 0 (records-in f 0);
   passes = table (λ b. pass-at f (suc b)) (body-count f - 1);
 }

@@ -13,9 +13,8 @@ use borrow.Author.Tests.{le-ltb, ne-eqb, ltb-false}
 use Rattle.model.proofs.Booleans.{or-none}
 use Rattle.model.specs.declared.Verdict.{Verdict}
 use Rattle.model.specs.declared.Verdict.the-variants.{Accepted, Stopped, Refused}
-use Rattle.model.specs.Sides.{first-of}
 use Rattle.model.specs.Rows.{Row, row, first, each}
-use Rattle.reading.specs.Bytes.{byte-at, u16-at, kind-of, array-count, body-count, table, length-at, arrays-of, entry-at, records-in, declarations-in, last-of-entry, sizes-of, first-record, record-count, bodies-at}
+use Rattle.reading.specs.Bytes.{byte-at, u16-at, kind-of, array-count, body-count, table, length-at, entry-at, records-in, declarations-in, last-of-entry, sizes-of, first-record, record-count, bodies-at, lengths-of}
 use Rattle.frame.specs.Frame.{header-fits, header-rows, tail-rows}
 use Rattle.contents.specs.Contents.{array-rows, body-rows, contents-rows, front-rows}
 use Rattle.records.specs.Records.{records-rows}
@@ -99,8 +98,8 @@ module _ (f g : List ℕ) (lf : 8390 < length f) (lg : 8390 < length g) (near : 
     records : (b : ℕ) → b < body-count f → records-in f b ≡ records-in g b
     records b l = rw (← entry b) (pair (entry-at f b) (omega (arith, low b l)))
 
-    arrays : arrays-of f ≡ arrays-of g
-    unfolding arrays-of
+    arrays : lengths-of f ≡ lengths-of g
+    unfolding lengths-of
     arrays = same-table _ _ _ lengths ∙ rw (near 1 (omega arith))
 
     sizes : sizes-of f ≡ sizes-of g

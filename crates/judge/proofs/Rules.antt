@@ -11,12 +11,12 @@ use lib.Dec.{eqb}
 use borrow.Author.Tests.{lt-ltb, le-ltb, eq-eqb, ne-eqb, eqb-true, not-false, not-true}
 use Rattle.model.specs.declared.Verdict.the-variants.{Accepted}
 use Rattle.model.specs.Lists.{All}
-use Rattle.model.specs.Sides.{Side, length-of, first-of, Cells}
+use Rattle.model.specs.Sides.{Side, span-of, Cells}
 use Rattle.model.specs.Effects.{copy, need, mark}
 use Rattle.model.specs.Judging.{R, W, RW, Declaration, permits, every, declared-once, Written, Rules}
 use Rattle.reading.specs.declared.Fields.{Fields}
 use Rattle.model.specs.Rows.{row, first, each}
-use Rattle.reading.specs.Bytes.{kind-of, body-count, arrays-of, records-in, declarations-in, first-record, bodies-at, fields-at, between}
+use Rattle.reading.specs.Bytes.{kind-of, body-count, layout-of, records-in, declarations-in, first-record, bodies-at, fields-at, between}
 use Rattle.format.specs.Opening.{open-rows, opening}
 use Rattle.format.specs.Plans.{side-of, action-of, declaration-of, pass-at, declared-plan-of}
 use Rattle.reading.proofs.Ranges.{in-range, out-of-range}
@@ -113,11 +113,11 @@ module _ (f : List ℕ) (a : Accepted ≡ opening f) (k : kind-of f ≡ 1) (b : 
       )
 
   -- 15
-  w-kept : (i : ℕ) → (Accepted ≡ first (w-rows f b i)) ↔ (declaration-of (fields-at f (first-record f b + i)) .mode ≡ W → Written (arrays-of f) (pass-at f b .body) (declaration-of (fields-at f (first-record f b + i))))
+  w-kept : (i : ℕ) → (Accepted ≡ first (w-rows f b i)) ↔ (declaration-of (fields-at f (first-record f b + i)) .mode ≡ W → Written (layout-of f) (pass-at f b .body) (declaration-of (fields-at f (first-record f b + i))))
   unfolding w-rows declaration-of
   w-kept i =
       let x = fields-at f (first-record f b + i) in
-      let cells = written-cells (arrays-of f) (pass-at f b .body) (declaration-of x) in (
+      let cells = written-cells (layout-of f) (pass-at f b .body) (declaration-of x) in (
         λ e w. cells .0 (not-false _ (rw (eq-eqb (x .kind) 17 (w-kind (x .kind) .0 w)) at (skipped _ _ _ _ e .0))),
         λ h. skips _ _ _ _ _ (elim (ℕᴺ-discrete (x .kind) 17) [
           | yes k ↦ rw (cells .1 (h (w-kind (x .kind) .1 k))) (and-false (eqb (x .kind) 17))
@@ -125,13 +125,13 @@ module _ (f : List ℕ) (a : Accepted ≡ opening f) (k : kind-of f ≡ 1) (b : 
         ]) empty,
       )
 
-  ws-kept : ((i : ℕ) → i < declarations-in f b → Accepted ≡ first (w-rows f b i)) ↔ All (λ (d : Declaration). d .mode ≡ W → Written (arrays-of f) (pass-at f b .body) d) (pass-at f b .declarations)
+  ws-kept : ((i : ℕ) → i < declarations-in f b → Accepted ≡ first (w-rows f b i)) ↔ All (λ (d : Declaration). d .mode ≡ W → Written (layout-of f) (pass-at f b .body) d) (pass-at f b .declarations)
   unfolding pass-at
   ws-kept =
-      let same = all-table (λ (d : Declaration). d .mode ≡ W → Written (arrays-of f) (pass-at f b .body) d) (λ i. declaration-of (fields-at f (first-record f b + i))) (declarations-in f b) in
+      let same = all-table (λ (d : Declaration). d .mode ≡ W → Written (layout-of f) (pass-at f b .body) d) (λ i. declaration-of (fields-at f (first-record f b + i))) (declarations-in f b) in
       (λ r. same .1 (λ i l. w-kept i .0 (r i l)), λ w i l. w-kept i .1 (same .0 w i l))
 
-  pass-accepts : (Accepted ≡ first (pass-rows f b)) ↔ Rules (arrays-of f) (pass-at f b)
+  pass-accepts : (Accepted ≡ first (pass-rows f b)) ↔ Rules (layout-of f) (pass-at f b)
   unfolding pass-rows
   pass-accepts =
       let n = declarations-in f b in
@@ -155,7 +155,7 @@ unfolding judged judge-rows opening declared-plan-of
 accepted-rules f =
     let n = body-count f - 1 in
     let passes = each-accepts (λ b. pass-rows f (suc b)) n in
-    let rules = all-table (Rules (arrays-of f)) (λ b. pass-at f (suc b)) n in (
+    let rules = all-table (Rules (layout-of f)) (λ b. pass-at f (suc b)) n in (
       λ e.
           let q = passed (open-rows f) _ (sym e) in
           let s = skipped _ _ _ _ (q .1) in
@@ -169,7 +169,7 @@ pub fifteen : Claim15
 unfolding w-rows declaration-of
 fifteen f b i =
     let x = fields-at f (first-record f b + i) in
-    let left = left-cells (arrays-of f) (pass-at f b .body) (declaration-of x) in (
-      λ e. let h = held _ _ _ e in (w-kind (x .kind) .1 (eqb-true (x .kind) 17 (and-out (eqb (x .kind) 17) _ h .0)), left .0 (not-true (all-written (arrays-of f) (declaration-of x .side) (pass-at f b .body) (first-of (arrays-of f) (x .array)) (length-of (arrays-of f) (x .array))) (and-out (eqb (x .kind) 17) _ h .1))),
+    let left = left-cells (layout-of f) (pass-at f b .body) (declaration-of x) in (
+      λ e. let h = held _ _ _ e in (w-kind (x .kind) .1 (eqb-true (x .kind) 17 (and-out (eqb (x .kind) 17) _ h .0)), left .0 (not-true (all-written (layout-of f) (declaration-of x .side) (pass-at f b .body) (span-of (layout-of f) (x .array) .first) (span-of (layout-of f) (x .array) .length)) (and-out (eqb (x .kind) 17) _ h .1))),
       λ p. sym (holds _ _ _ _ (rw (eq-eqb (x .kind) 17 (w-kind (x .kind) .0 (p .0)), left .1 (p .1)))),
     )

@@ -6,7 +6,7 @@ use mathlib.Core.List.{List}
 use Rattle.model.specs.declared.Verdict.the-variants.{Accepted, Refused}
 use Rattle.model.specs.Rows.{first}
 use Rattle.model.specs.Judging.{W, Leaves, Accepts}
-use Rattle.reading.specs.Bytes.{kind-of, arrays-of, first-record, fields-at}
+use Rattle.reading.specs.Bytes.{kind-of, layout-of, first-record, fields-at}
 use Rattle.format.specs.Opening.{opening}
 use Rattle.format.specs.Plans.{declared-plan-of, declaration-of, pass-at}
 use Rattle.judge.specs.Judged.{w-rows, judged}
@@ -22,4 +22,4 @@ Claim15 =
     (f : List ℕ) (b i : ℕ) →
     let r = first-record f b + i in
     let d = declaration-of (fields-at f r) in
-    (first (w-rows f b i) ≡ Refused 15 r) ↔ ((d .mode ≡ W) × Leaves (arrays-of f) (pass-at f b .body) d)
+    (first (w-rows f b i) ≡ Refused 15 r) ↔ ((d .mode ≡ W) × Leaves (layout-of f) (pass-at f b .body) d)

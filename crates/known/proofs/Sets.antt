@@ -7,7 +7,8 @@ use native.Mathlib.Omega.{arith}
 use lib.Dec.{eqb}
 use lib.ListN.{length, getD}
 use borrow.Author.Tests.{eq-eqb, eqb-true}
-use Rattle.model.specs.Sides.{Arrays, cells, array-of}
+use Rattle.model.specs.Inner.Holders.{array-of}
+use Rattle.model.specs.Sides.{Layout, cell-count}
 use Rattle.memories.specs.Inner.Ranges.{among}
 use Rattle.memories.proofs.Masks.{none}
 use Rattle.memories.proofs.Cells.{among-true}
@@ -15,69 +16,69 @@ use Rattle.known.specs.declared.Known.{Known}
 use Rattle.known.specs.Inner.Knowing.{at-start, Sound, Knows, Tells, Sure, Added, Dropped}
 
 -- the cells `from` up to `to` are cells of array a, and all of them where it is the whole of it
-pub record Piece (arrays : Arrays) (a : ℕ) (whole : Bool) (from to : ℕ) : Type 0 where
-  pub one : a < length arrays
-  pub ends : to ≤ cells arrays
-  pub own : (c : ℕ) → c < cells arrays → among from to c ≡ true → array-of arrays c ≡ a
-  pub all : whole ≡ true → (c : ℕ) → c < cells arrays → array-of arrays c ≡ a → among from to c ≡ true
+pub record Piece (layout : Layout) (a : ℕ) (whole : Bool) (from to : ℕ) : Type 0 where
+  pub one : a < length (layout .lengths)
+  pub ends : to ≤ cell-count layout
+  pub own : (c : ℕ) → c < cell-count layout → among from to c ≡ true → array-of layout c ≡ a
+  pub all : whole ≡ true → (c : ℕ) → c < cell-count layout → array-of layout c ≡ a → among from to c ≡ true
 
 -- what is known of an array is known of these cells
-sound-tells : {arrays : Arrays} {known a : ℕ} {whole : Bool} {from to : ℕ} {copies latest : List ℕ} → Piece arrays a whole from to → Sound arrays known copies latest → Tells known a from to copies latest
-sound-tells {arrays} {a = a} {from = from} {to = to} p s = record {
-  many = length arrays;
+sound-tells : {layout : Layout} {known a : ℕ} {whole : Bool} {from to : ℕ} {copies latest : List ℕ} → Piece layout a whole from to → Sound layout known copies latest → Tells known a from to copies latest
+sound-tells {layout} {a = a} {from = from} {to = to} p s = record {
+  many = length (layout .lengths);
   these = s .these;
   low = p .one;
   masked = s .masked;
   current = λ e c i j.
-      let z : c < cells arrays = omega (arith, p .ends) in
+      let z : c < cell-count layout = omega (arith, p .ends) in
       s .current c z (rw (p .own c z (among-true from to c i j)) e);
 }
 
-pub knows-sure : {arrays : Arrays} {k : Known} {a : ℕ} {whole : Bool} {from to : ℕ} {host card latest : List ℕ} → Piece arrays a whole from to → Knows arrays k host card latest → Sure k a from to host card latest
+pub knows-sure : {layout : Layout} {k : Known} {a : ℕ} {whole : Bool} {from to : ℕ} {host card latest : List ℕ} → Piece layout a whole from to → Knows layout k host card latest → Sure k a from to host card latest
 knows-sure p w = record { on-host = sound-tells p (w .on-host); on-card = sound-tells p (w .on-card) }
 
 -- the cells `from` up to `to` have become current, and every other is as it was
-pub added-sound : {arrays : Arrays} {known known′ a : ℕ} {whole : Bool} {from to : ℕ} {copies copies′ latest latest′ : List ℕ} →
-    Piece arrays a whole from to → Added whole a known known′ →
+pub added-sound : {layout : Layout} {known known′ a : ℕ} {whole : Bool} {from to : ℕ} {copies copies′ latest latest′ : List ℕ} →
+    Piece layout a whole from to → Added whole a known known′ →
     ((c : ℕ) → among from to c ≡ true → getD copies′ c 0 ≡ getD latest′ c 0) →
     ((c : ℕ) → among from to c ≡ false → getD copies′ c 0 ≡ getD copies c 0) →
     ((c : ℕ) → among from to c ≡ false → getD latest′ c 0 ≡ getD latest c 0) →
-    Sound arrays known copies latest → Sound arrays known′ copies′ latest′
-added-sound {arrays} {a = a} {whole = whole} {from = from} {to = to} {copies = copies} {copies′ = copies′} {latest = latest} {latest′ = latest′} p added new kept latest-kept s = record {
+    Sound layout known copies latest → Sound layout known′ copies′ latest′
+added-sound {layout} {a = a} {whole = whole} {from = from} {to = to} {copies = copies} {copies′ = copies′} {latest = latest} {latest′ = latest′} p added new kept latest-kept s = record {
   these = λ b. whole && eqb b a || s .these b;
-  masked = added (length arrays) (s .these) (p .one) (s .masked);
+  masked = added (length (layout .lengths)) (s .these) (p .one) (s .masked);
   current = λ c z e. go c z e (among from to c) refl;
 }
   where
     -- outside the range the array is not the one that was added
-    before : (c : ℕ) → c < cells arrays → (w g : Bool) → whole ≡ w → eqb (array-of arrays c) a ≡ g → among from to c ≡ false → (w && g || s .these (array-of arrays c)) ≡ true → s .these (array-of arrays c) ≡ true
+    before : (c : ℕ) → c < cell-count layout → (w g : Bool) → whole ≡ w → eqb (array-of layout c) a ≡ g → among from to c ≡ false → (w && g || s .these (array-of layout c)) ≡ true → s .these (array-of layout c) ≡ true
     before c z true true u v q e = absurd (true≢false (sym (p .all u c z (eqb-true _ _ v)) ∙ q))
     before c z true false u v q e = e
     before c z false g u v q e = e
 
-    go : (c : ℕ) → c < cells arrays → (whole && eqb (array-of arrays c) a || s .these (array-of arrays c)) ≡ true → (b : Bool) → among from to c ≡ b → getD copies′ c 0 ≡ getD latest′ c 0
+    go : (c : ℕ) → c < cell-count layout → (whole && eqb (array-of layout c) a || s .these (array-of layout c)) ≡ true → (b : Bool) → among from to c ≡ b → getD copies′ c 0 ≡ getD latest′ c 0
     go c z e true q = new c q
-    go c z e false q = kept c q ∙ s .current c z (before c z whole (eqb (array-of arrays c) a) refl refl q e) ∙ sym (latest-kept c q)
+    go c z e false q = kept c q ∙ s .current c z (before c z whole (eqb (array-of layout c) a) refl refl q e) ∙ sym (latest-kept c q)
 
 -- they have become stale
-pub dropped-sound : {arrays : Arrays} {known known′ a : ℕ} {whole : Bool} {from to : ℕ} {copies latest latest′ : List ℕ} →
-    Piece arrays a whole from to → Dropped a known known′ →
+pub dropped-sound : {layout : Layout} {known known′ a : ℕ} {whole : Bool} {from to : ℕ} {copies latest latest′ : List ℕ} →
+    Piece layout a whole from to → Dropped a known known′ →
     ((c : ℕ) → among from to c ≡ false → getD latest′ c 0 ≡ getD latest c 0) →
-    Sound arrays known copies latest → Sound arrays known′ copies latest′
-dropped-sound {arrays} {a = a} {from = from} {to = to} {copies = copies} {latest = latest} {latest′ = latest′} p dropped kept s = record {
+    Sound layout known copies latest → Sound layout known′ copies latest′
+dropped-sound {layout} {a = a} {from = from} {to = to} {copies = copies} {latest = latest} {latest′ = latest′} p dropped kept s = record {
   these = λ b. cond (eqb b a) false (s .these b);
-  masked = dropped (length arrays) (s .these) (p .one) (s .masked);
-  current = λ c z e. go c z (eqb (array-of arrays c) a) refl e (among from to c) refl;
+  masked = dropped (length (layout .lengths)) (s .these) (p .one) (s .masked);
+  current = λ c z e. go c z (eqb (array-of layout c) a) refl e (among from to c) refl;
 }
   where
-    go : (c : ℕ) → c < cells arrays → (g : Bool) → eqb (array-of arrays c) a ≡ g → cond g false (s .these (array-of arrays c)) ≡ true → (b : Bool) → among from to c ≡ b → getD copies c 0 ≡ getD latest′ c 0
+    go : (c : ℕ) → c < cell-count layout → (g : Bool) → eqb (array-of layout c) a ≡ g → cond g false (s .these (array-of layout c)) ≡ true → (b : Bool) → among from to c ≡ b → getD copies c 0 ≡ getD latest′ c 0
     go c z true v e b q = absurd (true≢false (sym e))
     go c z false v e true q = absurd (true≢false (sym (eq-eqb _ _ (p .own c z q)) ∙ v))
     go c z false v e false q = s .current c z e ∙ sym (kept c q)
 
 -- at the start
-pub start-known : (arrays : Arrays) (host card latest : List ℕ) → ((c : ℕ) → c < cells arrays → getD host c 0 ≡ getD latest c 0) → Knows arrays (at-start (length arrays)) host card latest
-start-known arrays host card latest h = record {
+pub start-known : (layout : Layout) (host card latest : List ℕ) → ((c : ℕ) → c < cell-count layout → getD host c 0 ≡ getD latest c 0) → Knows layout (at-start (length (layout .lengths))) host card latest
+start-known layout host card latest h = record {
   on-host = record { these = λ a. true; masked = refl; current = λ c z e. h c z };
-  on-card = record { these = λ a. false; masked = sym (none (length arrays)); current = λ c z e. absurd (true≢false (sym e)) };
+  on-card = record { these = λ a. false; masked = sym (none (length (layout .lengths))); current = λ c z e. absurd (true≢false (sym e)) };
 }

@@ -8,10 +8,10 @@ use lib.ListN.{length, getD, take, drop, length-drop}
 use lib.Seq.{getD-take, getD-drop, length-take-le}
 use borrow.Author.Tests.{leb-false}
 use Rattle.model.specs.declared.Verdict.the-variants.{Accepted}
-use Rattle.model.specs.Sides.{first-of}
+use Rattle.model.specs.Sides.{span-of}
 use Rattle.reading.specs.declared.Fields.{Fields}
 use Rattle.contents.specs.declared.Opened.{Opened}
-use Rattle.reading.specs.Bytes.{byte-at, u16-at, array-count, body-count, length-at, arrays-of, records-in, sizes-of, first-record, bodies-at, fields-at, first-arm, second-arm}
+use Rattle.reading.specs.Bytes.{byte-at, u16-at, array-count, body-count, length-at, layout-of, records-in, sizes-of, first-record, bodies-at, fields-at, first-arm, second-arm}
 use Rattle.format.specs.Opening.{open-rows, opening}
 use Rattle.contents.specs.Found.{found}
 use Rattle.format.specs.Views.{body-view-answer, body-at, body-bytes, viewed, body-view}
@@ -72,7 +72,7 @@ module _ (f : List ℕ) (o : Opened) (a : Accepted ≡ opening f) (e : o ≡ fou
   array-at k h =
       let w = opened-facts f a .bounds in
       let l : k < array-count f = rw (ap (λ x. x .arrays) e) at h in
-      let n : first-of (arrays-of f) (k + 1) ≡ first-of (arrays-of f) k + length-at f k = rw add-one (next-cell f k l) in
+      let n : span-of (layout-of f) (k + 1) .first ≡ span-of (layout-of f) k .first + length-at f k = rw add-one (next-cell f k l) in
       let here = array-start f o e w k (omega arith) in
       let next = array-start f o e w (k + 1) (omega arith) in
       record { low = omega (arith, w .header .arrays); rises = omega arith }

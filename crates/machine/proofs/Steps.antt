@@ -14,14 +14,14 @@ use borrow.Author.Tests.{eq-eqb, ne-eqb, eqb-true, eqb-false, ltb-false}
 use Rattle.model.specs.declared.Cell.{Cell}
 use Rattle.model.specs.declared.Verdict.{Verdict}
 use Rattle.model.specs.declared.Verdict.the-variants.{Accepted, Stopped, Refused}
-use Rattle.model.specs.Sides.{Arrays, cells, first-of, host}
+use Rattle.model.specs.Sides.{Layout, cell-count, span-of, host}
 use Rattle.model.specs.Effects.{effect}
 use Rattle.model.specs.Blocks.{Block, _then_}
 use Rattle.model.specs.declared.Tally.{Tally}
 use Rattle.model.specs.Runs.{Config, Ending, finished, stopped, out-of-choices, Step, step, lowest-unmet, onward, tally}
 use Rattle.model.proofs.Runs.{config, event}
 use Rattle.reading.specs.declared.Fields.{Fields}
-use Rattle.reading.specs.Bytes.{kind-of, array-count, arrays-of, record-count, fields-at, between, first-arm, second-arm}
+use Rattle.reading.specs.Bytes.{kind-of, array-count, layout-of, record-count, fields-at, between, first-arm, second-arm}
 use Rattle.rules.specs.Rules.{fields-fit, deepest}
 use Rattle.format.specs.Plans.{action-of, plan-of}
 use Rattle.format.specs.Inner.Walks.{Plain, Starts, Walkable, block-between}
@@ -44,8 +44,8 @@ use Rattle.machine.proofs.Records.{few-arrays, spans, piece, whole-at, 
 use Rattle.places.proofs.Places.{left-into, starts-into, placed-into, into-used, settling, light}
 
 -- the step of a configuration whose parts are known
-step-at : (arrays : Arrays) (k : Config) (b : Block) (cs : List Bool) → k .left ≡ b → k .choices ≡ cs → step arrays k ≡ step arrays (config b cs (k .state) (k .history))
-step-at arrays k b cs e g = λ i. step arrays (config (e i) (g i) (k .state) (k .history))
+step-at : (layout : Layout) (k : Config) (b : Block) (cs : List Bool) → k .left ≡ b → k .choices ≡ cs → step layout k ≡ step layout (config b cs (k .state) (k .history))
+step-at layout k b cs e g = λ i. step layout (config (e i) (g i) (k .state) (k .history))
 
 -- a record of the plan where a place is
 module _ (f : List ℕ) (bodies : ℕ) (w : Plain f bodies) (d r end : ℕ) (part : Part f d r end) (h : r < end) (x : Fields) (e : x ≡ fields-at f r) where
@@ -88,31 +88,31 @@ module _ (f : List ℕ) (bodies : ℕ) (w : Plain f bodies) (d r end : ℕ) (par
       omega (arith, ltb-false 15 d t)
 
 -- what the runner knows of a record of kind 1 to 5, whose cells are `from` up to `to` and whose array is `first` up to `next`, before it acts
-pub record Able (arrays : Arrays) (x : Fields) (first next from to : ℕ) (s : Stored) (at : ℕ) (own others latest : List ℕ) : Type 0 where
+pub record Able (layout : Layout) (x : Fields) (first next from to : ℕ) (s : Stored) (at : ℕ) (own others latest : List ℕ) : Type 0 where
   pub kind : (1 ≤ x .kind) × (x .kind ≤ 5)
   pub array : x .array < 32
   pub low : Low s
   pub sure : Sure (s .known) (x .array) from to own others latest
   pub rooms : Rooms from to own others latest
-  pub inside : to ≤ cells arrays
-  pub spans : Spans arrays (action-of x) from to
-  pub whole : (eqb from first && eqb to next) ≡ true → ArrayAt arrays (x .array) from to
+  pub inside : to ≤ cell-count layout
+  pub spans : Spans layout (action-of x) from to
+  pub whole : (eqb from first && eqb to next) ≡ true → ArrayAt layout (x .array) from to
   pub few : at < 1024
 
 -- the laws of a step from where the machine stands
 module _ (f choices : List ℕ) (m : Runner) (own others latest : List ℕ) (t : Tally) (run : m .running ≡ true) (k : Config) (w : Stands f choices m own others latest t k) where
-  abbrev arrays : Arrays
-  arrays = arrays-of f
+  abbrev layout : Layout
+  layout = layout-of f
 
   abbrev p : Spot
   p = m .place
 
   -- what a step from here is to show, of where it leads
   abbrev Stepped : Runner → List ℕ → List ℕ → List ℕ → Tally → Type 0
-  Stepped m′ own′ others′ latest′ t′ = StepsAs f choices k m′ own′ others′ latest′ t′ (step arrays k) × (measure (length choices) m′ < measure (length choices) m)
+  Stepped m′ own′ others′ latest′ t′ = StepsAs f choices k m′ own′ others′ latest′ t′ (step layout k) × (measure (length choices) m′ < measure (length choices) m)
 
   -- the run ends here
-  end-here : (v : Verdict) (e : Ending) → v ≡ said-of e → step arrays k ≡ Step.ends e → Stepped (ended-with m v) own others latest t
+  end-here : (v : Verdict) (e : Ending) → v ≡ said-of e → step layout k ≡ Step.ends e → Stepped (ended-with m v) own others latest t
   unfolding measure
   end-here v e q s = (
     rw s (
@@ -141,7 +141,7 @@ module _ (f choices : List ℕ) (m : Runner) (own others latest : List ℕ) (t :
   body-end z = w .left ∙ rw (w .settles z, z, block-none f (p .end) (p .end) (omega arith))
 
   pub at-end : p .at ≡ p .end → (r : Runner) → r ≡ ended-with m Accepted → Stepped r own others latest t
-  at-end z r e = rw e (end-here Accepted finished refl (step-at arrays k Block.done (k .choices) (body-end z) refl))
+  at-end z r e = rw e (end-here Accepted finished refl (step-at layout k Block.done (k .choices) (body-end z) refl))
 
   few-records : record-count f ≤ 1024
   few-records = opened-facts f (w .plain .opens) .bounds .records
@@ -151,7 +151,7 @@ module _ (f choices : List ℕ) (m : Runner) (own others latest : List ℕ) (t :
 
   -- a branch or a test takes a choice
   took : (c : Spot) (b : Block) → p .used < length choices → p .at ≡ next-record (k .left) →
-      step arrays k ≡ Step.next (config b (choices-of (drop (suc (p .used)) choices)) (k .state) (k .history)) →
+      step layout k ≡ Step.next (config b (choices-of (drop (suc (p .used)) choices)) (k .state) (k .history)) →
       left-of f c ≡ b → Placed f c → Starts f (c .room) → c .used ≡ p .used + 1 → Stepped (moved-to m (settled c) (m .flags) (m .others) (m .known)) own others latest t
   unfolding measure
   took c b h number s l placed starts u =
@@ -245,8 +245,8 @@ module _ (f choices : List ℕ) (m : Runner) (own others latest : List ℕ) (t :
           number = sym (ap next-record (branch-left y))
 
           go : (b : Bool) → eqb byte 0 ≡ b → Took (cond b (into p then-second then-next then-next) (into p (p .at + 1) then-second then-next))
-          go true q = took (into p then-second then-next then-next) _ u number (step-at arrays k _ _ (branch-left y) (taken true q)) (left-into f p then-second then-next then-next (w .placed) d) (placed-into f p then-second then-next then-next (w .placed) d two rest) (starts-into f p then-second then-next then-next (w .placed) d few-arrays-here (w .starts)) (into-used p _ _ _)
-          go false q = took (into p (p .at + 1) then-second then-next) _ u number (step-at arrays k _ _ (branch-left y) (taken false q)) (left-into f p (p .at + 1) then-second then-next (w .placed) d) (placed-into f p (p .at + 1) then-second then-next (w .placed) d one rest) (starts-into f p (p .at + 1) then-second then-next (w .placed) d few-arrays-here (w .starts)) (into-used p _ _ _)
+          go true q = took (into p then-second then-next then-next) _ u number (step-at layout k _ _ (branch-left y) (taken true q)) (left-into f p then-second then-next then-next (w .placed) d) (placed-into f p then-second then-next then-next (w .placed) d two rest) (starts-into f p then-second then-next then-next (w .placed) d few-arrays-here (w .starts)) (into-used p _ _ _)
+          go false q = took (into p (p .at + 1) then-second then-next) _ u number (step-at layout k _ _ (branch-left y) (taken false q)) (left-into f p (p .at + 1) then-second then-next (w .placed) d) (placed-into f p (p .at + 1) then-second then-next (w .placed) d one rest) (starts-into f p (p .at + 1) then-second then-next (w .placed) d few-arrays-here (w .starts)) (into-used p _ _ _)
 
       loop-took : x .kind ≡ 7 → Took (chosen p x byte)
       unfolding chosen left-of
@@ -262,8 +262,8 @@ module _ (f choices : List ℕ) (m : Runner) (own others latest : List ℕ) (t :
           past-loop = record { size = w .placed .size; here = rest; behind = w .placed .behind; shallow = w .placed .shallow }
 
           go : (b : Bool) → eqb byte 0 ≡ b → Took (cond b (skipped p then-next) (into p (p .at + 1) then-second (p .at)))
-          go true q = took (skipped p then-next) _ u number (step-at arrays k _ _ (w .left ∙ loop-here y) (taken true q)) refl past-loop (w .starts) refl
-          go false q = took (into p (p .at + 1) then-second (p .at)) _ u number (step-at arrays k _ _ (w .left ∙ loop-here y) (taken false q)) (left-into f p (p .at + 1) then-second (p .at) (w .placed) d ∙ ap (λ b. block-between f (p .at + 1) then-second then b) (loop-here y)) (placed-into f p (p .at + 1) then-second (p .at) (w .placed) d one part) (starts-into f p (p .at + 1) then-second (p .at) (w .placed) d few-arrays-here (w .starts)) (into-used p _ _ _)
+          go true q = took (skipped p then-next) _ u number (step-at layout k _ _ (w .left ∙ loop-here y) (taken true q)) refl past-loop (w .starts) refl
+          go false q = took (into p (p .at + 1) then-second (p .at)) _ u number (step-at layout k _ _ (w .left ∙ loop-here y) (taken false q)) (left-into f p (p .at + 1) then-second (p .at) (w .placed) d ∙ ap (λ b. block-between f (p .at + 1) then-second then b) (loop-here y)) (placed-into f p (p .at + 1) then-second (p .at) (w .placed) d one part) (starts-into f p (p .at + 1) then-second (p .at) (w .placed) d few-arrays-here (w .starts)) (into-used p _ _ _)
 
     spent : p .used ≡ length choices → k .choices ≡ []
     spent u = w .choices-left ∙ ap choices-of (ap (λ n. drop n choices) u ∙ drop-length choices)
@@ -279,10 +279,10 @@ module _ (f choices : List ℕ) (m : Runner) (own others latest : List ℕ) (t :
         by-kind : (u : p .used < length choices) → Stepped (moved-to m (settled (chosen p x (getD choices (p .used) 0))) (m .flags) (m .others) (m .known)) own others latest t
         by-kind u = elim (ℕᴺ-discrete (x .kind) 6) [ yes z ↦ branch-took u z | no z ↦ loop-took u (omega (arith, a)) ]
 
-        none-left : p .used ≡ length choices → step arrays k ≡ Step.ends (out-of-choices (p .at))
+        none-left : p .used ≡ length choices → step layout k ≡ Step.ends (out-of-choices (p .at))
         none-left u = elim (ℕᴺ-discrete (x .kind) 6) [
-          | yes z ↦ step-at arrays k _ [] (branch-left z) (spent u)
-          | no z ↦ step-at arrays k _ [] (w .left ∙ loop-here (omega (arith, a))) (spent u)
+          | yes z ↦ step-at layout k _ [] (branch-left z) (spent u)
+          | no z ↦ step-at layout k _ [] (w .left ∙ loop-here (omega (arith, a))) (spent u)
         ]
 
         go : (b : Bool) → eqb (p .used) (length choices) ≡ b → Stepped (cond b (ended-with m (Refused 22 (p .at))) (moved-to m (settled (chosen p x (getD choices (p .used) 0))) (m .flags) (m .others) (m .known))) own others latest t
@@ -290,13 +290,13 @@ module _ (f choices : List ℕ) (m : Runner) (own others latest : List ℕ) (t :
         go false u = by-kind (let n = eqb-false (p .used) (length choices) u in omega (arith, w .used, n))
 
     -- a record that is unmet
-    at-stop : x .kind ≤ 5 → (c : Cell) → lowest-unmet arrays (action-of x) (k .state) ≡ some (c .0) → Stepped (ended-with m (Stopped (record { 0 = p .at }) c)) own others latest t
-    at-stop y c o = end-here (Stopped (record { 0 = p .at }) c) (stopped (p .at) (c .0)) refl (step-at arrays k _ (k .choices) (act-left y) refl ∙ rw o)
+    at-stop : x .kind ≤ 5 → (c : Cell) → lowest-unmet layout (action-of x) (k .state) ≡ some (c .0) → Stepped (ended-with m (Stopped (record { 0 = p .at }) c)) own others latest t
+    at-stop y c o = end-here (Stopped (record { 0 = p .at }) c) (stopped (p .at) (c .0)) refl (step-at layout k _ (k .choices) (act-left y) refl ∙ rw o)
 
     -- a record that acts
-    at-act : x .kind ≤ 5 → (s : Stored) (own′ others′ latest′ : List ℕ) → lowest-unmet arrays (action-of x) (k .state) ≡ none →
-        Holds arrays host s own′ others′ latest′ (effect arrays (action-of x) (k .state)) (event (action-of x) (k .state) ∷ k .history) →
-        tally arrays (event (action-of x) (k .state) ∷ k .history) .moved ≤ tally arrays (k .history) .moved + 4096 →
+    at-act : x .kind ≤ 5 → (s : Stored) (own′ others′ latest′ : List ℕ) → lowest-unmet layout (action-of x) (k .state) ≡ none →
+        Holds layout host s own′ others′ latest′ (effect layout (action-of x) (k .state)) (event (action-of x) (k .state) ∷ k .history) →
+        tally layout (event (action-of x) (k .state) ∷ k .history) .moved ≤ tally layout (k .history) .moved + 4096 →
         Stepped (moved-to m (settled (past-record p)) (s .flags) (s .«other_flags») (s .known)) own′ others′ latest′ (tally-with s)
     unfolding measure weight
     at-act y s own′ others′ latest′ o held b =
@@ -304,7 +304,7 @@ module _ (f choices : List ℕ) (m : Runner) (own others latest : List ℕ) (t :
         let n : then-next ≡ p .at + 1 = omega (arith, a) in
         let rest : Part f (p .depth) (p .at + 1) (p .end) = rw n at (rest-part f (m .bodies) (w .plain) (p .depth) (p .at) (p .end) part h x e) in
         let q = settling f (p .depth) (past-record p) refl (record { size = w .placed .size; here = rest; behind = w .placed .behind; shallow = w .placed .shallow }) in
-        let went : step arrays k ≡ Step.next (config (left-of f (past-record p)) (k .choices) (effect arrays (action-of x) (k .state)) (event (action-of x) (k .state) ∷ k .history)) = step-at arrays k _ (k .choices) (act-left y) refl ∙ rw o in (
+        let went : step layout k ≡ Step.next (config (left-of f (past-record p)) (k .choices) (effect layout (action-of x) (k .state)) (event (action-of x) (k .state) ∷ k .history)) = step-at layout k _ (k .choices) (act-left y) refl ∙ rw o in (
           rw went (
             run,
             sym (ap next-record (act-left y)),
@@ -325,7 +325,7 @@ module _ (f choices : List ℕ) (m : Runner) (own others latest : List ℕ) (t :
           omega (arith, q .used, q .lighter),
         )
 
-    module _ (y : x .kind ≤ 5) (first next : ℕ) (a : first ≡ first-of arrays (x .array)) (b : next ≡ first-of arrays (x .array + 1)) where
+    module _ (y : x .kind ≤ 5) (first next : ℕ) (a : first ≡ span-of layout (x .array) .first) (b : next ≡ span-of layout (x .array + 1) .first) where
       abbrev from : ℕ
       from = from-of x first
 
@@ -338,11 +338,11 @@ module _ (f choices : List ℕ) (m : Runner) (own others latest : List ℕ) (t :
       fit : fields-fit f x ≡ true
       fit = record-fits f (m .bodies) (w .plain) (p .depth) (p .at) (p .end) part h x e
 
-      pub able : Able arrays x first next from to (stored-with m t) (p .at) own others latest
+      pub able : Able layout x first next from to (stored-with m t) (p .at) own others latest
       able =
           let i = inside f (m .bodies) (w .plain) x fit kinds first next a b in
-          let n = few-counted arrays (k .history) in
-          let room : (l : List ℕ) → cells arrays ≤ length l → Room from to l = λ l g. record { order = i .0; inside = omega (arith, i .1, g) } in
+          let n = few-counted layout (k .history) in
+          let room : (l : List ℕ) → cell-count layout ≤ length l → Room from to l = λ l g. record { order = i .0; inside = omega (arith, i .1, g) } in
           record {
             kind = kinds;
             array = few-arrays f (m .bodies) (w .plain) x fit kinds;
@@ -360,17 +360,17 @@ module _ (f choices : List ℕ) (m : Runner) (own others latest : List ℕ) (t :
           }
 
       -- what the record did is a step of the run, or its end
-      pub at-record : (r : Acted) (own′ others′ latest′ : List ℕ) → Acts arrays (action-of x) (stored-with m t) own others latest r own′ others′ latest′ → Stepped (after-act m r) own′ others′ latest′ (tally-after t r)
+      pub at-record : (r : Acted) (own′ others′ latest′ : List ℕ) → Acts layout (action-of x) (stored-with m t) own others latest r own′ others′ latest′ → Stepped (after-act m r) own′ others′ latest′ (tally-after t r)
       at-record (Done s) own′ others′ latest′ acts =
           let q = acts (k .state) (k .history) (w .holds) in
-          at-act y s own′ others′ latest′ (q .0) (q .1) (few-moved arrays (action-of x) from to (able .spans) (able .rooms .few) (k .state) (k .history))
+          at-act y s own′ others′ latest′ (q .0) (q .1) (few-moved layout (action-of x) from to (able .spans) (able .rooms .few) (k .state) (k .history))
       at-record (Unmet c) own′ others′ latest′ acts =
           let q = acts (k .state) (k .history) (w .holds) in
           rw (q .1, q .2, q .3) (at-stop y c (q .0))
 
 -- what a call of `step` ensures, from what it does at each configuration
 pub ensured : (f choices : List ℕ) (m : Runner) (own others latest : List ℕ) (t : Tally) (m′ : Runner) (own′ others′ latest′ : List ℕ) (t′ : Tally) (n : ℕ) → Stood f choices m own others latest t →
-    ((k : Config) → Stands f choices m own others latest t k → StepsAs f choices k m′ own′ others′ latest′ t′ (step (arrays-of f) k) × (measure (length choices) m′ < measure (length choices) m)) →
+    ((k : Config) → Stands f choices m own others latest t k → StepsAs f choices k m′ own′ others′ latest′ t′ (step (layout-of f) k) × (measure (length choices) m′ < measure (length choices) m)) →
     Same n own own′ → Same n others others′ → Same n latest latest′ →
     Steps f choices m own others latest t m′ own′ others′ latest′ t′ × (measure (length choices) m′ < measure (length choices) m) × Same n own own′ × Same n others others′ × Same n latest latest′
 ensured f choices m own others latest t m′ own′ others′ latest′ t′ n w law a b c = (λ k v. law k v .0, law (w .config) (w .stands) .1, a, b, c)
@@ -382,8 +382,8 @@ stood w = record { config = w .config; stands = w .stands }
 pub goes-on : {f choices : List ℕ} {m : Runner} {own others latest : List ℕ} {t : Tally} {m′ : Runner} {own′ others′ latest′ : List ℕ} {t′ : Tally} →
     Reaches f choices m own others latest t → Steps f choices m own others latest t m′ own′ others′ latest′ t′ → Reaches f choices m′ own′ others′ latest′ t′
 unfolding plan-of
-goes-on {f} {choices} {m′ = m′} {own′} {others′} {latest′} {t′} w law = go (step (arrays-of f) (w .config)) refl (law (w .config) (w .stands))
+goes-on {f} {choices} {m′ = m′} {own′} {others′} {latest′} {t′} w law = go (step (layout-of f) (w .config)) refl (law (w .config) (w .stands))
   where
-    go : (s : Step) → step (arrays-of f) (w .config) ≡ s → StepsAs f choices (w .config) m′ own′ others′ latest′ t′ s → Reaches f choices m′ own′ others′ latest′ t′
+    go : (s : Step) → step (layout-of f) (w .config) ≡ s → StepsAs f choices (w .config) m′ own′ others′ latest′ t′ s → Reaches f choices m′ own′ others′ latest′ t′
     go (Step.next k) q s = record { config = k; run = onward (w .run) q; stands = s .2; ended = rw (s .0) tt }
     go (Step.ends e) q s = record { config = w .config; run = w .run; stands = s .2; ended = rw (s .0) (record { ending = e; last = q; says = s .1 }) }

@@ -3,8 +3,8 @@ ghost use mathlib.Core.Path.{_≡_};
 ghost use mathlib.Core.Bool.{true};
 ghost use Prim.Native.Nat.{_<_};
 ghost use lib.ListN.{length};
-ghost use Rattle.model.specs.Sides.{cells};
-ghost use Rattle.reading.specs.Bytes.{arrays-of};
+ghost use Rattle.model.specs.Sides.{cell-count};
+ghost use Rattle.reading.specs.Bytes.{layout-of};
 ghost use Rattle.memories.specs.Inner.Ranges.{Same};
 ghost use Rattle.standing.specs.Inner.Standing.{runner, measure, Stood, Steps};
 use acts::act;
@@ -35,7 +35,7 @@ pub fn step(
     t: Tally,
 ) -> Stepped
     requires { ⌜ (m .running ≡ true) × Stood (now plan) (now choices) (runner m (now room)) (now host) (now card) (now latest) t ⌝ }
-    ensures { λ r. ⌜ Steps (now (plan .entry)) (now (choices .entry)) (runner m (now (room .entry))) (now (host .entry)) (now (card .entry)) (now (latest .entry)) t (runner (r .machine) (now (room .exit))) (now (host .exit)) (now (card .exit)) (now (latest .exit)) (r .tally) × (measure (length (now (choices .entry))) (runner (r .machine) (now (room .exit))) < measure (length (now (choices .entry))) (runner m (now (room .entry)))) × Same (cells (arrays-of (now (plan .entry)))) (now (host .entry)) (now (host .exit)) × Same (cells (arrays-of (now (plan .entry)))) (now (card .entry)) (now (card .exit)) × Same (cells (arrays-of (now (plan .entry)))) (now (latest .entry)) (now (latest .exit)) ⌝ }
+    ensures { λ r. ⌜ Steps (now (plan .entry)) (now (choices .entry)) (runner m (now (room .entry))) (now (host .entry)) (now (card .entry)) (now (latest .entry)) t (runner (r .machine) (now (room .exit))) (now (host .exit)) (now (card .exit)) (now (latest .exit)) (r .tally) × (measure (length (now (choices .entry))) (runner (r .machine) (now (room .exit))) < measure (length (now (choices .entry))) (runner m (now (room .entry)))) × Same (cell-count (layout-of (now (plan .entry)))) (now (host .entry)) (now (host .exit)) × Same (cell-count (layout-of (now (plan .entry)))) (now (card .entry)) (now (card .exit)) × Same (cell-count (layout-of (now (plan .entry)))) (now (latest .entry)) (now (latest .exit)) ⌝ }
 {
     let p = m.place;
     if p.at == p.end {
@@ -73,7 +73,7 @@ pub fn step_lent(
     tally: &mut Tally,
 ) -> Machine
     requires { ⌜ (m .running ≡ true) × Stood (now plan) (now choices) (runner m (now room)) (now host) (now card) (now latest) (now tally) ⌝ }
-    ensures { λ r. ⌜ Steps (now (plan .entry)) (now (choices .entry)) (runner m (now (room .entry))) (now (host .entry)) (now (card .entry)) (now (latest .entry)) (now (tally .entry)) (runner r (now (room .exit))) (now (host .exit)) (now (card .exit)) (now (latest .exit)) (now (tally .exit)) × (measure (length (now (choices .entry))) (runner r (now (room .exit))) < measure (length (now (choices .entry))) (runner m (now (room .entry)))) × Same (cells (arrays-of (now (plan .entry)))) (now (host .entry)) (now (host .exit)) × Same (cells (arrays-of (now (plan .entry)))) (now (card .entry)) (now (card .exit)) × Same (cells (arrays-of (now (plan .entry)))) (now (latest .entry)) (now (latest .exit)) ⌝ }
+    ensures { λ r. ⌜ Steps (now (plan .entry)) (now (choices .entry)) (runner m (now (room .entry))) (now (host .entry)) (now (card .entry)) (now (latest .entry)) (now (tally .entry)) (runner r (now (room .exit))) (now (host .exit)) (now (card .exit)) (now (latest .exit)) (now (tally .exit)) × (measure (length (now (choices .entry))) (runner r (now (room .exit))) < measure (length (now (choices .entry))) (runner m (now (room .entry)))) × Same (cell-count (layout-of (now (plan .entry)))) (now (host .entry)) (now (host .exit)) × Same (cell-count (layout-of (now (plan .entry)))) (now (card .entry)) (now (card .exit)) × Same (cell-count (layout-of (now (plan .entry)))) (now (latest .entry)) (now (latest .exit)) ⌝ }
 {
     let r = step(m, plan, choices, host, card, latest, room, *tally);
     *tally = r.tally;

@@ -8,12 +8,13 @@ use native.Mathlib.Omega.{arith}
 use lib.Dec.{eqb}
 use lib.ListN.{length, getD}
 use borrow.Author.Tests.{eq-eqb, ne-eqb, le-leb}
-use Rattle.model.specs.Sides.{Side, is, Arrays, length-of, array-of, Cells, within}
+use Rattle.model.specs.Inner.Holders.{array-of}
+use Rattle.model.specs.Sides.{Side, is, Layout, span-of, Cells, within}
 use Rattle.model.specs.Effects.{read, copy, need, mark}
 use Rattle.model.specs.Judging.{writes-cell}
 use Rattle.model.proofs.Numbering.{array-ends, within-array, within-range}
 use Rattle.reading.specs.declared.Fields.{Fields}
-use Rattle.reading.specs.Bytes.{array-count, arrays-of, fields-at, first-arm, second-arm}
+use Rattle.reading.specs.Bytes.{array-count, layout-of, fields-at, first-arm, second-arm}
 use Rattle.format.specs.Plans.{side-of, action-of}
 use Rattle.format.specs.Inner.Walks.{Walkable}
 use Rattle.format.proofs.Walking.{steps}
@@ -30,11 +31,11 @@ same-side s t h k = elim (ℕᴺ-discrete s 0) [
 ]
 
 -- a record that is no write writes no cell
-no-write : (arrays : Arrays) (s : Side) (c : ℕ) (x : Fields) → (x .kind ≡ 2 → ⊥) → writes-cell arrays s c (action-of x) ≡ false
+no-write : (layout : Layout) (s : Side) (c : ℕ) (x : Fields) → (x .kind ≡ 2 → ⊥) → writes-cell layout s c (action-of x) ≡ false
 unfolding action-of
-no-write arrays s c x h = rw (ne-eqb (x .kind) 2 h) (go (eqb (x .kind) 1) (eqb (x .kind) 3) (eqb (x .kind) 4) (side-of (x .side)) (record { array = x .array; p = x .p; q = x .q }))
+no-write layout s c x h = rw (ne-eqb (x .kind) 2 h) (go (eqb (x .kind) 1) (eqb (x .kind) 3) (eqb (x .kind) 4) (side-of (x .side)) (record { array = x .array; p = x .p; q = x .q }))
   where
-    go : (i j k : Bool) (t : Side) (these : Cells) → writes-cell arrays s c (cond i (read t these) (cond j (copy t these) (cond k (need t (these .array)) (mark t (these .array))))) ≡ false
+    go : (i j k : Bool) (t : Side) (these : Cells) → writes-cell layout s c (cond i (read t these) (cond j (copy t these) (cond k (need t (these .array)) (mark t (these .array))))) ≡ false
     go true j k t these = refl
     go false true k t these = refl
     go false false true t these = refl
@@ -54,7 +55,7 @@ arms-of f r end x i j h = arms (steps f r end (h .less) (h .walk) x (h .fields))
 
 module _ (f starts sides : List ℕ) (t : Tables f starts sides) where
   abbrev side-at : ℕ → Side
-  side-at c = side-of (getD sides (array-of (arrays-of f) c) 0)
+  side-at c = side-of (getD sides (array-of (layout-of f) c) 0)
 
   pub adds-none : (r end : ℕ) → end ≤ r → (l : List Bool) → length l ≡ 4096 → Adds l l (always f sides r end)
   unfolding always
@@ -65,37 +66,37 @@ module _ (f starts sides : List ℕ) (t : Tables f starts sides) where
     unfolding always
     at-branch n c = rw (h .one, h .two, block-branch f r end (h .less) (h .walk) x (h .fields) n)
 
-    at-other : (x .kind ≡ 6 → ⊥) → (c : ℕ) → always f sides r end c ≡ (writes-cell (arrays-of f) (side-at c) c (action-of x) || always f sides (r + 1 + i + j) end c)
+    at-other : (x .kind ≡ 6 → ⊥) → (c : ℕ) → always f sides r end c ≡ (writes-cell (layout-of f) (side-at c) c (action-of x) || always f sides (r + 1 + i + j) end c)
     unfolding always
     at-other n c = elim (ℕᴺ-discrete (x .kind) 7) [
-      | yes m ↦ rw (h .one, h .two, no-write (arrays-of f) (side-at c) c x (λ z. omega arith), block-loop f r end (h .less) (h .walk) x (h .fields) m)
+      | yes m ↦ rw (h .one, h .two, no-write (layout-of f) (side-at c) c x (λ z. omega arith), block-loop f r end (h .less) (h .walk) x (h .fields) m)
       | no m ↦ rw (h .one, h .two, block-act f r end (h .less) (h .walk) x (h .fields) n m)
     ]
 
     -- what a write says of its cells
     module _ (k : x .kind ≡ 2) where
-      fits : (x .side < 2) × (x .array < array-count f) × (x .p ≤ x .q) × (x .q ≤ length-of (arrays-of f) (x .array))
+      fits : (x .side < 2) × (x .array < array-count f) × (x .p ≤ x .q) × (x .q ≤ span-of (layout-of f) (x .array) .length)
       fits =
           let w = cells-fit f x (steps f r end (h .less) (h .walk) x (h .fields) .fits) (omega arith) (omega arith) in
           (omega arith, w .0 .1, omega arith, rw (array-length f (x .array) (w .0 .1)) (w .2))
 
       pub write-fits : (x .array < 32) × (x .p ≤ x .q) × (getD starts (x .array) 0 + x .q ≤ 4096)
-      write-fits = (omega (arith, fits .1, t .arrays-low), fits .2, rw (t .starts-are (x .array) (omega (arith, fits .1))) (omega (arith, fits .3, array-ends (arrays-of f) (x .array), t .cells-low)))
+      write-fits = (omega (arith, fits .1, t .arrays-low), fits .2, rw (t .starts-are (x .array) (omega (arith, fits .1))) (omega (arith, fits .3, array-ends (layout-of f) (x .array), t .cells-low)))
 
       -- the side for the array of a cell of the record is the side for the record's array
-      write-side : (c : ℕ) (w : Bool) → within (arrays-of f) (record { array = x .array; p = x .p; q = x .q }) c ≡ w → (is (side-of (x .side)) (side-at c) && w) ≡ (eqb (x .side) (getD sides (x .array) 0) && w)
+      write-side : (c : ℕ) (w : Bool) → within (layout-of f) (record { array = x .array; p = x .p; q = x .q }) c ≡ w → (is (side-of (x .side)) (side-at c) && w) ≡ (eqb (x .side) (getD sides (x .array) 0) && w)
       write-side c false e = and-false (is (side-of (x .side)) (side-at c)) ∙ sym (and-false (eqb (x .side) (getD sides (x .array) 0)))
-      write-side c true e = rw (within-array (arrays-of f) _ c e, same-side (x .side) (getD sides (x .array) 0) (fits .0) (t .sides-low (x .array) (write-fits .0)))
+      write-side c true e = rw (within-array (layout-of f) _ c e, same-side (x .side) (getD sides (x .array) 0) (fits .0) (t .sides-low (x .array) (write-fits .0)))
 
-      write-hits : (c : ℕ) → writes-cell (arrays-of f) (side-at c) c (action-of x) ≡ hits starts sides x c
+      write-hits : (c : ℕ) → writes-cell (layout-of f) (side-at c) c (action-of x) ≡ hits starts sides x c
       unfolding action-of hits
-      write-hits c = rw (ne-eqb (x .kind) 1 (λ z. omega arith), eq-eqb (x .kind) 2 k, le-leb (x .kind) 3 (omega arith), write-side c _ refl, within-range (arrays-of f) (record { array = x .array; p = x .p; q = x .q }) c (fits .3), t .starts-are (x .array) (omega (arith, fits .1)))
+      write-hits c = rw (ne-eqb (x .kind) 1 (λ z. omega arith), eq-eqb (x .kind) 2 k, le-leb (x .kind) 3 (omega arith), write-side c _ refl, within-range (layout-of f) (record { array = x .array; p = x .p; q = x .q }) c (fits .3), t .starts-are (x .array) (omega (arith, fits .1)))
 
-    record-hits : (c : ℕ) → writes-cell (arrays-of f) (side-at c) c (action-of x) ≡ hits starts sides x c
+    record-hits : (c : ℕ) → writes-cell (layout-of f) (side-at c) c (action-of x) ≡ hits starts sides x c
     unfolding hits
     record-hits c = elim (ℕᴺ-discrete (x .kind) 2) [
       | yes k ↦ write-hits k c
-      | no k ↦ no-write (arrays-of f) (side-at c) c x k ∙ rw (ne-eqb (x .kind) 2 k)
+      | no k ↦ no-write (layout-of f) (side-at c) c x k ∙ rw (ne-eqb (x .kind) 2 k)
     ]
 
     -- a set that has the cells of record r, and then those of the rest

@@ -11,7 +11,7 @@ use lib.Dec.{ltb}
 use borrow.Author.Tests.{ltb-true, ltb-false}
 use Rattle.model.specs.declared.Verdict.{Verdict}
 use Rattle.model.specs.declared.Verdict.the-variants.{Accepted, Stopped, Refused}
-use Rattle.model.specs.Sides.{cells}
+use Rattle.model.specs.Sides.{cell-count}
 use Rattle.model.specs.Blocks.{Plan}
 use Rattle.model.specs.Check.{Answers}
 use Rattle.model.specs.Verdicts.{stop}
@@ -91,7 +91,7 @@ fits-alike n d P (Refused number place) l e h = h
 
 module _ (plan : Plan) where
   -- the answer that fits all cells is the one that the plan's carried-on runs give, and none else is
-  pub exact : (v : Verdict) → Fits (cells (plan .arrays)) (StopsAt plan) v ↔ Answers plan v
+  pub exact : (v : Verdict) → Fits (cell-count (plan .layout)) (StopsAt plan) v ↔ Answers plan v
   exact Accepted = (λ h r c m. h r c (m .cell) (sound plan r c m), λ h r c l p. h r c (complete plan r c l p))
   exact (Stopped r c) = (
     λ h. (

@@ -5,7 +5,7 @@ use mathlib.Core.List.{List}
 use mathlib.Core.Option.{Option, none, some}
 use mathlib.Core.Bool.{Bool, true, false≢true}
 use borrow.Author.Tests.{eqb-true}
-use Rattle.model.specs.Sides.{Side, Stamp, never, at, equals, cells, Cells, within}
+use Rattle.model.specs.Sides.{Side, Stamp, never, at, equals, cell-count, Cells, within}
 use Rattle.model.specs.Effects.{Action, read}
 use Rattle.model.specs.Blocks.{Block, act}
 use Rattle.model.specs.Runs.{Config, stopped, carry, lowest-unmet, stop-or, step, Run, Ends}
@@ -32,28 +32,28 @@ module _ (plan : DeclaredPlan) (cs : List Bool) (ok : Accepts plan) where
   unstuck k r c e = at-end plan cs ok e
 
   met-now : {k : Config} → Run (expansion plan) cs k → (r : ℕ) (x : Action) (b : Block) → k .left ≡ act r x b →
-      lowest-unmet (plan .arrays) x (k .state) ≡ none
-  met-now {k} h r x b e = go (lowest-unmet (plan .arrays) x (k .state)) refl
+      lowest-unmet (plan .layout) x (k .state) ≡ none
+  met-now {k} h r x b e = go (lowest-unmet (plan .layout) x (k .state)) refl
     where
-      at-record : step (plan .arrays) k ≡ stop-or r (lowest-unmet (plan .arrays) x (k .state)) (carry (plan .arrays) (config (act r x b) (k .choices) (k .state) (k .history)))
-      at-record = ap (λ l. step (plan .arrays) (config l (k .choices) (k .state) (k .history))) e
+      at-record : step (plan .layout) k ≡ stop-or r (lowest-unmet (plan .layout) x (k .state)) (carry (plan .layout) (config (act r x b) (k .choices) (k .state) (k .history)))
+      at-record = ap (λ l. step (plan .layout) (config l (k .choices) (k .state) (k .history))) e
 
-      go : (o : Option ℕ) → lowest-unmet (plan .arrays) x (k .state) ≡ o → lowest-unmet (plan .arrays) x (k .state) ≡ none
+      go : (o : Option ℕ) → lowest-unmet (plan .layout) x (k .state) ≡ o → lowest-unmet (plan .layout) x (k .state) ≡ none
       go none u = u
       go (some c) u = absurd (unstuck k r c (record { run = h; last = rw u at at-record }))
 
   latest : {k : Config} → Run (expansion plan) cs k → (s : Side) (c : ℕ) → k .state .held s c ≡ at (k .state .latest c) →
-      k .state .held s c ≡ at (latest-write (plan .arrays) (k .history) c)
+      k .state .held s c ≡ at (latest-write (plan .layout) (k .history) c)
   latest h s c e = e ∙ ap at (tracked (carried h) .latest c)
 
   reads : (k : Config) → Run (expansion plan) cs k → (r : ℕ) (s : Side) (x : Cells) (b : Block) → k .left ≡ act r (read s x) b →
-      (c : ℕ) → c < cells (plan .arrays) → within (plan .arrays) x c ≡ true → k .state .held s c ≡ at (latest-write (plan .arrays) (k .history) c)
+      (c : ℕ) → c < cell-count (plan .layout) → within (plan .layout) x c ≡ true → k .state .held s c ≡ at (latest-write (plan .layout) (k .history) c)
   reads k h r s x b e c i w =
-      let m = all-met (plan .arrays) (read s x) (k .state) (met-now h r (read s x) b e) c i in
+      let m = all-met (plan .layout) (read s x) (k .state) (met-now h r (read s x) b e) c i in
       latest h s c (equal-stamp (k .state .held s c) (k .state .latest c) (rw w at m))
 
-  current : (k : Config) → Run (expansion plan) cs k → (c : ℕ) → c < cells (plan .arrays) →
-      (s : Side) × (k .state .held s c ≡ at (latest-write (plan .arrays) (k .history) c))
+  current : (k : Config) → Run (expansion plan) cs k → (c : ℕ) → c < cell-count (plan .layout) →
+      (s : Side) × (k .state .held s c ≡ at (latest-write (plan .layout) (k .history) c))
   current k h c i = let s = coherent plan cs ok c i (follows plan cs ok h .stages) .current in (s .0, latest h (s .0) c (s .1))
 
   moved : {k : Config} → Finished plan cs (k .choices) (k .history) → Moves plan cs k

@@ -22,18 +22,18 @@ module _ (plan : Plan) (all : List Bool) where
   abbrev EndsWith : List Bool → Type 0
   EndsWith cs = (b : Block) (σ : State) (l : List Event) → Run plan all (config b cs σ l) → Ended
 
-  ended : (k : Config) (e : Ending) → Run plan all k → step (plan .arrays) k ≡ ends e → Ended
+  ended : (k : Config) (e : Ending) → Run plan all k → step (plan .layout) k ≡ ends e → Ended
   ended k e h q = record { last = k; ending = e; ends = record { run = h; last = q } }
 
   end-act : (cs : List Bool) (r : ℕ) (x : Action) (b : Block) → ((σ : State) (l : List Event) → Run plan all (config b cs σ l) → Ended) →
       (σ : State) (l : List Event) → Run plan all (config (act r x b) cs σ l) → Ended
-  end-act cs r x b more σ l h = go (lowest-unmet (plan .arrays) x σ) refl
+  end-act cs r x b more σ l h = go (lowest-unmet (plan .layout) x σ) refl
     where
       after : Step
-      after = next (config b cs (effect (plan .arrays) x σ) (event x σ ∷ l))
+      after = next (config b cs (effect (plan .layout) x σ) (event x σ ∷ l))
 
-      go : (o : Option ℕ) → lowest-unmet (plan .arrays) x σ ≡ o → Ended
-      go none q = more (effect (plan .arrays) x σ) (event x σ ∷ l) (onward h (ap (λ o. stop-or r o after) q))
+      go : (o : Option ℕ) → lowest-unmet (plan .layout) x σ ≡ o → Ended
+      go none q = more (effect (plan .layout) x σ) (event x σ ∷ l) (onward h (ap (λ o. stop-or r o after) q))
       go (some c) q = ended (config (act r x b) cs σ l) (stopped r c) h (ap (λ o. stop-or r o after) q)
 
   end-empty : EndsWith []
@@ -53,7 +53,7 @@ module _ (plan : Plan) (all : List Bool) where
   end-with (c ∷ cs) = end-choice c cs (end-with cs)
 
   pub run-ends : Ended
-  run-ends = end-with all (plan .body) (start (plan .arrays)) [] here
+  run-ends = end-with all (plan .body) (start (plan .layout)) [] here
 
 -- of two configurations that steps of one kind reach, one leads to the other
 module _ (one : Config → Step) where
@@ -100,7 +100,7 @@ module _ (one : Config → Step) where
       same = go (compare g h)
 
 ends-once : {plan : Plan} {cs : List Bool} {j k : Config} {d e : Ending} → Ends plan cs j d → Ends plan cs k e → (j ≡ k) × (d ≡ e)
-ends-once {plan} g h = one-end (step (plan .arrays)) (g .run) (g .last) (h .run) (h .last)
+ends-once {plan} g h = one-end (step (plan .layout)) (g .run) (g .last) (h .run) (h .last)
 
 pub ends-in-one-way : ClaimEnding
 ends-in-one-way plan cs = let e = run-ends plan cs in (e .last, e .ending, e .ends, λ j d h. ends-once h (e .ends))

@@ -4,7 +4,7 @@ use mathlib.Core.Path.{_≡_, subst}
 use mathlib.Core.List.{List, [], _∷_}
 use mathlib.Core.Bool.{Bool, true≢false}
 use mathlib.Core.Option.{Option, none, some}
-use Rattle.model.specs.Sides.{Arrays}
+use Rattle.model.specs.Sides.{Layout}
 use Rattle.model.specs.Effects.{Action, State, start, effect}
 use Rattle.model.specs.Blocks.{Block, done, act, branch, loop, Plan}
 use Rattle.model.specs.Runs.{Event, copies, Config, next, carry, stop-or, lowest-unmet, step, here, onward, Run}
@@ -21,12 +21,12 @@ event x σ = record { action = x; copied = copies x σ }
 pub next-same : (k k′ : Config) → next k ≡ next k′ → k ≡ k′
 next-same k k′ e = cc
 
-module _ (arrays : Arrays) where
-  pub next-carry : (b : Block) (cs : List Bool) (σ : State) (l : List Event) (k : Config) → step arrays (config b cs σ l) ≡ next k → carry arrays (config b cs σ l) ≡ next k
+module _ (layout : Layout) where
+  pub next-carry : (b : Block) (cs : List Bool) (σ : State) (l : List Event) (k : Config) → step layout (config b cs σ l) ≡ next k → carry layout (config b cs σ l) ≡ next k
   next-carry done cs σ l k e = e
-  next-carry (act r x b) cs σ l k e = go (lowest-unmet arrays x σ) e
+  next-carry (act r x b) cs σ l k e = go (lowest-unmet layout x σ) e
     where
-      go : (o : Option ℕ) → stop-or r o (carry arrays (config (act r x b) cs σ l)) ≡ next k → carry arrays (config (act r x b) cs σ l) ≡ next k
+      go : (o : Option ℕ) → stop-or r o (carry layout (config (act r x b) cs σ l)) ≡ next k → carry layout (config (act r x b) cs σ l) ≡ next k
       go none f = f
       go (some c) f = cc
   next-carry (branch r x y b) cs σ l k e = e
@@ -34,15 +34,15 @@ module _ (arrays : Arrays) where
 
 pub carried : {plan : Plan} {cs : List Bool} {k : Config} → Run plan cs k → Carried plan cs k
 carried here = here
-carried {plan} (onward {k = k} {k′} h e) = onward (carried h) (next-carry (plan .arrays) (k .left) (k .choices) (k .state) (k .history) k′ e)
+carried {plan} (onward {k = k} {k′} h e) = onward (carried h) (next-carry (plan .layout) (k .left) (k .choices) (k .state) (k .history) k′ e)
 
 pub proper-carried : ClaimCarried
 proper-carried plan cs k = carried
 
 -- what holds at the start and is kept by every executed record
-module _ (plan : Plan) (P : State → List Event → Type 0) (first : P (start (plan .arrays)) [])
-    (keeps : (x : Action) (σ : State) (l : List Event) → P σ l → P (effect (plan .arrays) x σ) (event x σ ∷ l)) where
-  kept-on : (b : Block) (cs : List Bool) (σ : State) (l : List Event) (k : Config) → carry (plan .arrays) (config b cs σ l) ≡ next k → P σ l → P (k .state) (k .history)
+module _ (plan : Plan) (P : State → List Event → Type 0) (first : P (start (plan .layout)) [])
+    (keeps : (x : Action) (σ : State) (l : List Event) → P σ l → P (effect (plan .layout) x σ) (event x σ ∷ l)) where
+  kept-on : (b : Block) (cs : List Bool) (σ : State) (l : List Event) (k : Config) → carry (plan .layout) (config b cs σ l) ≡ next k → P σ l → P (k .state) (k .history)
   kept-on done cs σ l k e p = absurd (true≢false (cc))
   kept-on (act r x b) cs σ l k e p = subst (λ (m : Config). P (m .state) (m .history)) (next-same _ k e) (keeps x σ l p)
   kept-on (branch r x y b) [] σ l k e p = absurd (true≢false (cc))

@@ -8,7 +8,7 @@ use mathlib.Core.Bool.{Bool, true, false, cond, _&&_}
 use native.Mathlib.Omega.{arith}
 use lib.Dec.{eqb}
 use borrow.Author.Tests.{eqb-true}
-use Rattle.model.specs.Sides.{Side, host, card, other, is, Stamp, never, at, equals, Arrays, array-of, within}
+use Rattle.model.specs.Sides.{Side, host, card, other, is, Stamp, never, at, equals, Layout, span-of, in-span, within}
 use Rattle.model.specs.Effects.{Action, read, write, copy, need, mark, State, start, stamped, copied, flagged, effect}
 use Rattle.model.specs.Blocks.{Plan}
 use Rattle.model.specs.Runs.{Event, Config, tally}
@@ -40,10 +40,10 @@ pub old-stale : (w : ℕ) (x : Stamp) → Old w x → equals x (suc w) ≡ false
 old-stale w never h = refl
 old-stale w (at j) h = false-of (eqb j (suc w)) λ e. let q : j ≡ suc w = eqb-true j (suc w) e in omega arith
 
-past-start : (arrays : Arrays) → Past (start arrays)
-past-start arrays = record { held = held; latest = λ c. omega arith }
+past-start : (layout : Layout) → Past (start layout)
+past-start layout = record { held = held; latest = λ c. omega arith }
   where
-    held : (s : Side) (c : ℕ) → Old 0 (start arrays .held s c)
+    held : (s : Side) (c : ℕ) → Old 0 (start layout .held s c)
     held host c = omega arith
     held card c = omega arith
 
@@ -70,16 +70,16 @@ past-cond : (b : Bool) (σ τ : State) → Past σ → Past τ → Past (cond b 
 past-cond true σ τ h k = h
 past-cond false σ τ h k = k
 
-pub past-effect : (arrays : Arrays) (x : Action) (σ : State) → Past σ → Past (effect arrays x σ)
-past-effect arrays (read s x) σ p = p
-past-effect arrays (write s x) σ p = past-flagged _ _ (past-stamped s (within arrays x) σ p)
-past-effect arrays (copy s x) σ p = past-flagged _ _ (past-copied s (within arrays x) σ p)
-past-effect arrays (need s a) σ p = past-cond (σ .flag s a) _ _ p (past-flagged _ _ (past-copied s (λ c. eqb (array-of arrays c) a) σ p))
-past-effect arrays (mark s a) σ p = past-flagged _ σ p
+pub past-effect : (layout : Layout) (x : Action) (σ : State) → Past σ → Past (effect layout x σ)
+past-effect layout (read s x) σ p = p
+past-effect layout (write s x) σ p = past-flagged _ _ (past-stamped s (within layout x) σ p)
+past-effect layout (copy s x) σ p = past-flagged _ _ (past-copied s (within layout x) σ p)
+past-effect layout (need s a) σ p = past-cond (σ .flag s a) _ _ p (past-flagged _ _ (past-copied s (in-span (span-of layout a)) σ p))
+past-effect layout (mark s a) σ p = past-flagged _ σ p
 
 -- at every moment of a run, and of a carried-on run
 pub past : {plan : Plan} {cs : List Bool} {k : Config} → Carried plan cs k → Past (k .state)
-past {plan} h = along plan (λ σ l. Past σ) (past-start (plan .arrays)) (λ x σ l. past-effect (plan .arrays) x σ) h
+past {plan} h = along plan (λ σ l. Past σ) (past-start (plan .layout)) (λ x σ l. past-effect (plan .layout) x σ) h
 
 pub fresh : ClaimFresh
 fresh plan cs k h s c e = go (k .state .held s c) (past h .held s c) e
@@ -89,23 +89,23 @@ fresh plan cs k h s c e = go (k .state .held s c) (past h .held s c) e
     go (at j) o q = let z : j ≡ suc (k .state .writes) = cc in omega arith
 
 -- the count of writes and `latest` are those of the history
-pub record Tracked (arrays : Arrays) (σ : State) (l : List Event) : Type 0 where
-  pub writes : σ .writes ≡ tally arrays l .writes
-  pub latest : (c : ℕ) → σ .latest c ≡ latest-write arrays l c
+pub record Tracked (layout : Layout) (σ : State) (l : List Event) : Type 0 where
+  pub writes : σ .writes ≡ tally layout l .writes
+  pub latest : (c : ℕ) → σ .latest c ≡ latest-write layout l c
 
-tracked-effect : (arrays : Arrays) (x : Action) (σ : State) (l : List Event) → Tracked arrays σ l → Tracked arrays (effect arrays x σ) (event x σ ∷ l)
-tracked-effect arrays (read s x) σ l t = record { writes = t .writes; latest = t .latest }
-tracked-effect arrays (write s x) σ l t = record { writes = ap suc (t .writes); latest = λ c. rw (t .writes, t .latest c) }
-tracked-effect arrays (copy s x) σ l t = record { writes = t .writes; latest = t .latest }
-tracked-effect arrays (need s a) σ l t = go (σ .flag s a) refl
+tracked-effect : (layout : Layout) (x : Action) (σ : State) (l : List Event) → Tracked layout σ l → Tracked layout (effect layout x σ) (event x σ ∷ l)
+tracked-effect layout (read s x) σ l t = record { writes = t .writes; latest = t .latest }
+tracked-effect layout (write s x) σ l t = record { writes = ap suc (t .writes); latest = λ c. rw (t .writes, t .latest c) }
+tracked-effect layout (copy s x) σ l t = record { writes = t .writes; latest = t .latest }
+tracked-effect layout (need s a) σ l t = go (σ .flag s a) refl
   where
-    go : (b : Bool) → σ .flag s a ≡ b → Tracked arrays (effect arrays (need s a) σ) (event (need s a) σ ∷ l)
+    go : (b : Bool) → σ .flag s a ≡ b → Tracked layout (effect layout (need s a) σ) (event (need s a) σ ∷ l)
     go true e = rw e (record { writes = t .writes; latest = t .latest })
     go false e = rw e (record { writes = t .writes; latest = t .latest })
-tracked-effect arrays (mark s a) σ l t = record { writes = t .writes; latest = t .latest }
+tracked-effect layout (mark s a) σ l t = record { writes = t .writes; latest = t .latest }
 
-pub tracked : {plan : Plan} {cs : List Bool} {k : Config} → Carried plan cs k → Tracked (plan .arrays) (k .state) (k .history)
-tracked {plan} h = along plan (Tracked (plan .arrays)) (record { writes = refl; latest = λ c. refl }) (tracked-effect (plan .arrays)) h
+pub tracked : {plan : Plan} {cs : List Bool} {k : Config} → Carried plan cs k → Tracked (plan .layout) (k .state) (k .history)
+tracked {plan} h = along plan (Tracked (plan .layout)) (record { writes = refl; latest = λ c. refl }) (tracked-effect (plan .layout)) h
 
 pub latest-tracked : ClaimLatest
 latest-tracked plan cs k h = tracked h .latest

@@ -6,7 +6,7 @@ use mathlib.Core.List.{List, [], _∷_}
 use mathlib.Core.Bool.{Bool, true≢false}
 use mathlib.Core.Option.{Option, none, some}
 use native.Mathlib.Omega.{arith}
-use Rattle.model.specs.Sides.{cells}
+use Rattle.model.specs.Sides.{cell-count}
 use Rattle.model.specs.Effects.{State}
 use Rattle.model.specs.Blocks.{Block, done, act, branch, loop, Plan}
 use Rattle.model.specs.Runs.{Event, Config, next, ends, stopped, carry, lowest-unmet, stop-or, step, here, onward, Run}
@@ -18,11 +18,11 @@ use Rattle.model.proofs.Runs.{config, carried}
 module _ (plan : Plan) where
   -- a carried-on run is a run, or a run on the same choices gets stuck
   run-on : (b : Block) (cs : List Bool) (σ : State) (l : List Event) {ds : List Bool} (k : Config) →
-      Run plan ds (config b cs σ l) → carry (plan .arrays) (config b cs σ l) ≡ next k → Run plan ds k ⊎ Stuck plan
+      Run plan ds (config b cs σ l) → carry (plan .layout) (config b cs σ l) ≡ next k → Run plan ds k ⊎ Stuck plan
   run-on done cs σ l k h e = inl (onward h e)
-  run-on (act r x b) cs σ l {ds} k h e = go (lowest-unmet (plan .arrays) x σ) refl
+  run-on (act r x b) cs σ l {ds} k h e = go (lowest-unmet (plan .layout) x σ) refl
     where
-      go : (o : Option ℕ) → lowest-unmet (plan .arrays) x σ ≡ o → Run plan ds k ⊎ Stuck plan
+      go : (o : Option ℕ) → lowest-unmet (plan .layout) x σ ≡ o → Run plan ds k ⊎ Stuck plan
       go none q = inl (onward {k′ = k} h (rw q e))
       go (some c) q = inr (record { choices = ds; config = config (act r x b) cs σ l; number = r; cell = c; ends = record { run = h; last = rw q } })
   run-on (branch r x y b) cs σ l k h e = inl (onward h e)
@@ -34,19 +34,19 @@ module _ (plan : Plan) where
 
   stops-stuck : (r c : ℕ) → MayStop plan r c → Stuck plan
   stops-stuck r c m = elim (run-or-stuck (m .carried)) [
-    | inl h ↦ let u = unmet-some (plan .arrays) (m .action) (m .config .state) 0 (cells (plan .arrays)) c (m .unmet) (omega arith) (omega arith) in
+    | inl h ↦ let u = unmet-some (plan .layout) (m .action) (m .config .state) 0 (cell-count (plan .layout)) c (m .unmet) (omega arith) (omega arith) in
         record { choices = m .choices; config = m .config; number = r; cell = u .0; ends = record { run = h; last = rw (m .left, u .1) } }
     | inr s ↦ s
   ]
 
   stuck-on : (b : Block) (cs : List Bool) (σ : State) (l : List Event) (r c : ℕ) {ds : List Bool} →
-      Carried plan ds (config b cs σ l) → step (plan .arrays) (config b cs σ l) ≡ ends (stopped r c) → MayStop plan r c
+      Carried plan ds (config b cs σ l) → step (plan .layout) (config b cs σ l) ≡ ends (stopped r c) → MayStop plan r c
   stuck-on done cs σ l r c h e = absurd (true≢false (cc))
-  stuck-on (act q x b) cs σ l r c {ds} h e = go (lowest-unmet (plan .arrays) x σ) refl e
+  stuck-on (act q x b) cs σ l r c {ds} h e = go (lowest-unmet (plan .layout) x σ) refl e
     where
-      go : (o : Option ℕ) → lowest-unmet (plan .arrays) x σ ≡ o → stop-or q o (carry (plan .arrays) (config (act q x b) cs σ l)) ≡ ends (stopped r c) → MayStop plan r c
+      go : (o : Option ℕ) → lowest-unmet (plan .layout) x σ ≡ o → stop-or q o (carry (plan .layout) (config (act q x b) cs σ l)) ≡ ends (stopped r c) → MayStop plan r c
       go none f e = absurd (true≢false (cc))
-      go (some d) f e = let u = unmet-is (plan .arrays) x σ 0 (cells (plan .arrays)) c (cc) in
+      go (some d) f e = let u = unmet-is (plan .layout) x σ 0 (cell-count (plan .layout)) c (cc) in
           record { cell = omega (arith, u .1); choices = ds; config = config (act q x b) cs σ l; carried = h; action = x; rest = b; left = cc; unmet = u .0 }
   stuck-on (branch q x y b) [] σ l r c h e = absurd (true≢false (cc))
   stuck-on (branch q x y b) (d ∷ cs) σ l r c h e = absurd (true≢false (cc))

@@ -4,7 +4,7 @@ use mathlib.Core.Path.{_≡_, refl, ap, sym, _∙_}
 use mathlib.Core.Logic.{_⊎_, inl, inr}
 use mathlib.Core.List.{List, [], _∷_}
 use mathlib.Core.Bool.{Bool, true, false, cond, true≢false}
-use Rattle.model.specs.Sides.{Arrays, cells}
+use Rattle.model.specs.Sides.{Layout, cell-count}
 use Rattle.model.specs.Effects.{Action, State, start, met, effect}
 use Rattle.model.specs.Blocks.{Block, done, act, branch, loop, _then_, Plan}
 use Rattle.model.specs.Runs.{Event, Config, next, carry, Reached, here, onward}
@@ -18,18 +18,18 @@ pub data Star (R : Status → Status → Type 0) : Status → Status → Type 0 
   stay : {u : Status} → Star R u u
   more : {u w v : Status} → R u w → Star R w v → Star R u v
 
-module _ (arrays : Arrays) (c : ℕ) where
+module _ (layout : Layout) (c : ℕ) where
   -- cell c can go through the block from status u to status v
   abbrev pub Goes : Block → Status → Status → Type 0
   Goes done u v = u ≡ v
-  Goes (act k x b) u v = Goes b (status-after arrays c x u) v
+  Goes (act k x b) u v = Goes b (status-after layout c x u) v
   Goes (branch k x y b) u v = (w : Status) × (Goes x u w ⊎ Goes y u w) × Goes b w v
   Goes (loop k x b) u v = (w : Status) × Star (Goes x) u w × Goes b w v
 
   -- from status u it can stop at record r of the block
   abbrev pub Stops : Block → Status → ℕ → Type 0
   Stops done u r = ⊥
-  Stops (act k x b) u r = ((k ≡ r) × (met-in arrays c x u ≡ false)) ⊎ Stops b (status-after arrays c x u) r
+  Stops (act k x b) u r = ((k ≡ r) × (met-in layout c x u ≡ false)) ⊎ Stops b (status-after layout c x u) r
   Stops (branch k x y b) u r = (Stops x u r ⊎ Stops y u r) ⊎ ((w : Status) × (Goes x u w ⊎ Goes y u w) × Stops b w r)
   Stops (loop k x b) u r = (w : Status) × Star (Goes x) u w × (Stops x w r ⊎ Stops b w r)
 
@@ -42,7 +42,7 @@ module _ (arrays : Arrays) (c : ℕ) where
     stops-then : (x b : Block) (u : Status) → Stops (x then b) u r → InOrAfter x b u
     stops-then done b u s = inr (u, refl, s)
     stops-then (act k y x) b u (inl s) = inl (inl s)
-    stops-then (act k y x) b u (inr s) = elim (stops-then x b (status-after arrays c y u) s) [ inl t ↦ inl (inr t) | inr t ↦ inr t ]
+    stops-then (act k y x) b u (inr s) = elim (stops-then x b (status-after layout c y u) s) [ inl t ↦ inl (inr t) | inr t ↦ inr t ]
     stops-then (branch k y z x) b u (inl s) = inl (inl s)
     stops-then (branch k y z x) b u (inr s) = elim (stops-then x b (s .0) (s .2)) [ inl t ↦ inl (inr (s .0, s .1, t)) | inr t ↦ inr (t .0, (s .0, s .1, t .1), t .2) ]
     stops-then (loop k y x) b u s = elim (s .2) [
@@ -60,35 +60,35 @@ module _ (arrays : Arrays) (c : ℕ) where
 
     -- a configuration from which the cell can stop
     abbrev StopsFrom : Config → Type 0
-    StopsFrom k = Stops (k .left) (status-of arrays c (k .state)) r
+    StopsFrom k = Stops (k .left) (status-of layout c (k .state)) r
 
-    stops-before : (b : Block) (cs : List Bool) (σ : State) (l : List Event) (k : Config) → Past σ →
-        carry arrays (config b cs σ l) ≡ next k → StopsFrom k → StopsFrom (config b cs σ l)
-    stops-before done cs σ l k p e = absurd (true≢false (cc))
-    stops-before (act q x b) cs σ l k p e = rw (← next-same _ k e) (λ s. inr (rw (status-effect arrays c x σ p) at s))
-    stops-before (branch q x y b) [] σ l k p e = absurd (true≢false (cc))
-    stops-before (branch q x y b) (d ∷ cs) σ l k p e = rw (← next-same _ k e) (stops-branch q x y b d (status-of arrays c σ))
-    stops-before (loop q x b) [] σ l k p e = absurd (true≢false (cc))
-    stops-before (loop q x b) (d ∷ cs) σ l k p e = rw (← next-same _ k e) (stops-loop q x b d (status-of arrays c σ))
+    stops-before : c < cell-count layout → (b : Block) (cs : List Bool) (σ : State) (l : List Event) (k : Config) → Past σ →
+        carry layout (config b cs σ l) ≡ next k → StopsFrom k → StopsFrom (config b cs σ l)
+    stops-before i done cs σ l k p e = absurd (true≢false (cc))
+    stops-before i (act q x b) cs σ l k p e = rw (← next-same _ k e) (λ s. inr (rw (status-effect layout c i x σ p) at s))
+    stops-before i (branch q x y b) [] σ l k p e = absurd (true≢false (cc))
+    stops-before i (branch q x y b) (d ∷ cs) σ l k p e = rw (← next-same _ k e) (stops-branch q x y b d (status-of layout c σ))
+    stops-before i (loop q x b) [] σ l k p e = absurd (true≢false (cc))
+    stops-before i (loop q x b) (d ∷ cs) σ l k p e = rw (← next-same _ k e) (stops-loop q x b d (status-of layout c σ))
 
   -- each of these is a stop of some carried-on run: the choices are built from the last one to the first
-  module _ (r : ℕ) where
+  module _ (r : ℕ) (i : c < cell-count layout) where
     -- with b left, some choices lead to a stop at record r
     record CanStop (b : Block) (σ : State) (l : List Event) : Type 0 where
       choices : List Bool
       last : Config
-      reached : Reached (carry arrays) (config b choices σ l) last
+      reached : Reached (carry layout) (config b choices σ l) last
       action : Action
       rest : Block
       left : last .left ≡ act r action rest
-      unmet : met arrays action (last .state) c ≡ false
+      unmet : met layout action (last .state) c ≡ false
 
-    reached-before : {k k′ m : Config} → carry arrays k ≡ next k′ → Reached (carry arrays) k′ m → Reached (carry arrays) k m
+    reached-before : {k k′ m : Config} → carry layout k ≡ next k′ → Reached (carry layout) k′ m → Reached (carry layout) k m
     reached-before e here = onward here e
     reached-before e (onward h f) = onward (reached-before e h) f
 
     can-stop-before : {b b′ : Block} {σ σ′ : State} {l l′ : List Event} (taken : List Bool → List Bool) →
-        ((cs : List Bool) → carry arrays (config b (taken cs) σ l) ≡ next (config b′ cs σ′ l′)) → CanStop b′ σ′ l′ → CanStop b σ l
+        ((cs : List Bool) → carry layout (config b (taken cs) σ l) ≡ next (config b′ cs σ′ l′)) → CanStop b′ σ′ l′ → CanStop b σ l
     can-stop-before taken e m = record {
       choices = taken (m .choices);
       last = m .last;
@@ -101,11 +101,11 @@ module _ (arrays : Arrays) (c : ℕ) where
 
     -- so it is in every state in which the cell has status u
     abbrev From : Block → Status → Type 0
-    From b u = (σ : State) (l : List Event) → Past σ → status-of arrays c σ ≡ u → CanStop b σ l
+    From b u = (σ : State) (l : List Event) → Past σ → status-of layout c σ ≡ u → CanStop b σ l
 
-    from-act : (k : ℕ) (x : Action) (b : Block) (u : Status) → From b (status-after arrays c x u) → From (act k x b) u
+    from-act : (k : ℕ) (x : Action) (b : Block) (u : Status) → From b (status-after layout c x u) → From (act k x b) u
     from-act k x b u f σ l p e = can-stop-before (λ cs. cs) (λ cs. refl)
-        (f (effect arrays x σ) (event x σ ∷ l) (past-effect arrays x σ p) (status-effect arrays c x σ p ∙ ap (status-after arrays c x) e))
+        (f (effect layout x σ) (event x σ ∷ l) (past-effect layout x σ p) (status-effect layout c i x σ p ∙ ap (status-after layout c x) e))
 
     from-branch : (k : ℕ) (x y b : Block) (d : Bool) (u : Status) → From (cond d x y then b) u → From (branch k x y b) u
     from-branch k x y b d u f σ l p e = can-stop-before (λ cs. d ∷ cs) (λ cs. refl) (f σ l p e)
@@ -121,7 +121,7 @@ module _ (arrays : Arrays) (c : ℕ) where
     -- through x, and then whatever b leads to
     from-goes : (x b : Block) (u v : Status) → Goes x u v → From b v → From (x then b) u
     from-goes done b u v g f = rw g f
-    from-goes (act k y x) b u v g f = from-act k y (x then b) u (from-goes x b (status-after arrays c y u) v g f)
+    from-goes (act k y x) b u v g f = from-act k y (x then b) u (from-goes x b (status-after layout c y u) v g f)
     from-goes (branch k y z x) b u v g f = elim (g .1) [
       | inl h ↦ from-branch k y z (x then b) true u (from-goes y (x then b) u (g .0) h (from-goes x b (g .0) v (g .2) f))
       | inr h ↦ from-branch k y z (x then b) false u (from-goes z (x then b) u (g .0) h (from-goes x b (g .0) v (g .2) f))
@@ -138,9 +138,9 @@ module _ (arrays : Arrays) (c : ℕ) where
       action = y;
       rest = x then b;
       left = ap (λ q. act q y (x then b)) (s .0);
-      unmet = met-status arrays c y σ ∙ (ap (met-in arrays c y) e ∙ s .1);
+      unmet = met-status layout c i y σ ∙ (ap (met-in layout c y) e ∙ s .1);
     }
-    from-stops (act k y x) b u (inr s) = from-act k y (x then b) u (from-stops x b (status-after arrays c y u) s)
+    from-stops (act k y x) b u (inr s) = from-act k y (x then b) u (from-stops x b (status-after layout c y u) s)
     from-stops (branch k y z x) b u (inl (inl s)) = from-branch k y z (x then b) true u (from-stops y (x then b) u s)
     from-stops (branch k y z x) b u (inl (inr s)) = from-branch k y z (x then b) false u (from-stops z (x then b) u s)
     from-stops (branch k y z x) b u (inr s) = elim (s .1) [
@@ -161,19 +161,19 @@ then-done (loop k y x) = ap (loop k y) (then-done x)
 module _ (plan : Plan) (r c : ℕ) where
   -- from the plan's start the cell can stop at record r
   abbrev pub StopsAt : Type 0
-  StopsAt = Stops (plan .arrays) c (plan .body) (status-of (plan .arrays) c (start (plan .arrays))) r
+  StopsAt = Stops (plan .layout) c (plan .body) (status-of (plan .layout) c (start (plan .layout))) r
 
-  stops-begin : {cs : List Bool} {k : Config} → Carried plan cs k → StopsFrom (plan .arrays) c r k → StopsAt
-  stops-begin here s = s
-  stops-begin (onward {k = k} {k′} h e) s = stops-begin h (stops-before (plan .arrays) c r (k .left) (k .choices) (k .state) (k .history) k′ (past h) e s)
+  stops-begin : c < cell-count (plan .layout) → {cs : List Bool} {k : Config} → Carried plan cs k → StopsFrom (plan .layout) c r k → StopsAt
+  stops-begin i here s = s
+  stops-begin i (onward {k = k} {k′} h e) s = stops-begin i h (stops-before (plan .layout) c r i (k .left) (k .choices) (k .state) (k .history) k′ (past h) e s)
 
   pub sound : MayStop plan r c → StopsAt
-  sound m = stops-begin (m .carried) (rw (m .left) (inl (refl, sym (met-status (plan .arrays) c (m .action) (m .config .state)) ∙ m .unmet)))
+  sound m = stops-begin (m .cell) (m .carried) (rw (m .left) (inl (refl, sym (met-status (plan .layout) c (m .cell) (m .action) (m .config .state)) ∙ m .unmet)))
 
-  pub complete : c < cells (plan .arrays) → StopsAt → MayStop plan r c
+  pub complete : c < cell-count (plan .layout) → StopsAt → MayStop plan r c
   complete h s =
-      let m : CanStop (plan .arrays) c r (plan .body) (start (plan .arrays)) [] =
-      rw then-done at (from-stops (plan .arrays) c r (plan .body) done _ s (start (plan .arrays)) [] (past {plan = plan} {cs = []} here) refl) in
+      let m : CanStop (plan .layout) c r h (plan .body) (start (plan .layout)) [] =
+      rw then-done at (from-stops (plan .layout) c r h (plan .body) done _ s (start (plan .layout)) [] (past {plan = plan} {cs = []} here) refl) in
       record {
         cell = h;
         choices = m .choices;

@@ -11,7 +11,7 @@ use lib.Dec.{leb}
 use borrow.Author.Tests.{leb-true, leb-false}
 use Rattle.model.specs.declared.Verdict.{Verdict}
 use Rattle.model.specs.declared.Verdict.the-variants.{Accepted}
-use Rattle.model.specs.Sides.{Arrays, cells}
+use Rattle.model.specs.Sides.{Layout, cell-count}
 use Rattle.model.specs.Effects.{Action, start}
 use Rattle.model.specs.Blocks.{Block, done, act, branch, loop, Plan}
 use Rattle.model.specs.Check.{Answers}
@@ -76,29 +76,29 @@ star-keeps : {R : Status → Status → Type 0} (P : Status → Type 0) → ((u 
 star-keeps P k stay p = p
 star-keeps P k {u} (more {w = w} r s) p = star-keeps P k s (k u w p r)
 
-module _ (arrays : Arrays) (c : ℕ) where
+module _ (layout : Layout) (c : ℕ) where
   -- the statuses in which the cell can leave a block, from those of a list
   abbrev pub exits : Block → List Status → List Status
   exits done l = l
-  exits (act k x b) l = exits b (map (status-after arrays c x) l)
+  exits (act k x b) l = exits b (map (status-after layout c x) l)
   exits (branch k x y b) l = exits b (exits x l ++ exits y l)
   exits (loop k x b) l = exits b (l ++ exits x l)
 
   -- whether no loop can bring more
   abbrev pub settled : Block → List Status → Bool
   settled done l = true
-  settled (act k x b) l = settled b (map (status-after arrays c x) l)
+  settled (act k x b) l = settled b (map (status-after layout c x) l)
   settled (branch k x y b) l = settled x l && (settled y l && settled b (exits x l ++ exits y l))
   settled (loop k x b) l = let m = l ++ exits x l in settled x m && (has-all m (exits x m) && settled b m)
 
   -- the records at which it can stop
   unfoldable pub unmet : ℕ → Action → List Status → List ℕ
   unmet k x [] = []
-  unmet k x (u ∷ l) = cond (met-in arrays c x u) (unmet k x l) (k ∷ unmet k x l)
+  unmet k x (u ∷ l) = cond (met-in layout c x u) (unmet k x l) (k ∷ unmet k x l)
 
   abbrev pub stops : Block → List Status → List ℕ
   stops done l = []
-  stops (act k x b) l = unmet k x l ++ stops b (map (status-after arrays c x) l)
+  stops (act k x b) l = unmet k x l ++ stops b (map (status-after layout c x) l)
   stops (branch k x y b) l = (stops x l ++ stops y l) ++ stops b (exits x l ++ exits y l)
   stops (loop k x b) l = let m = l ++ exits x l in stops x m ++ stops b m
 
@@ -107,12 +107,12 @@ module _ (arrays : Arrays) (c : ℕ) where
   From l R v = (u : Status) × Has l u × R u v
 
   -- after one turn or none
-  turned-from : (x : Block) (l : List Status) (w : Status) → (Has (exits x l) w → From l (Goes arrays c x) w) → Has (l ++ exits x l) w → From l (Star (Goes arrays c x)) w
+  turned-from : (x : Block) (l : List Status) (w : Status) → (Has (exits x l) w → From l (Goes layout c x) w) → Has (l ++ exits x l) w → From l (Star (Goes layout c x)) w
   turned-from x l w f h = elim (has-out l (exits x l) w h) [ inl e ↦ (w, e, stay) | inr e ↦ let q = f e in (q .0, q .1, more (q .2) stay) ]
 
-  exits-from : (b : Block) (l : List Status) (v : Status) → Has (exits b l) v → From l (Goes arrays c b) v
+  exits-from : (b : Block) (l : List Status) (v : Status) → Has (exits b l) v → From l (Goes layout c b) v
   exits-from done l v h = (v, h, refl)
-  exits-from (act k x b) l v h = let p = exits-from b _ v h in let q = map-out (status-after arrays c x) l (p .0) (p .1) in (q .0, q .1, rw (q .2) (p .2))
+  exits-from (act k x b) l v h = let p = exits-from b _ v h in let q = map-out (status-after layout c x) l (p .0) (p .1) in (q .0, q .1, rw (q .2) (p .2))
   exits-from (branch k x y b) l v h = let p = exits-from b (exits x l ++ exits y l) v h in elim (has-out (exits x l) (exits y l) (p .0) (p .1)) [
     | inl e ↦ let q = exits-from x l (p .0) e in (q .0, q .1, (p .0, inl (q .2), p .2))
     | inr e ↦ let q = exits-from y l (p .0) e in (q .0, q .1, (p .0, inr (q .2), p .2))
@@ -120,9 +120,9 @@ module _ (arrays : Arrays) (c : ℕ) where
   exits-from (loop k x b) l v h = let p = exits-from b (l ++ exits x l) v h in let q = turned-from x l (p .0) (exits-from x l (p .0)) (p .1) in (q .0, q .1, (p .0, q .2, p .2))
 
   -- and nothing is missing where all is settled
-  exits-all : (b : Block) (l : List Status) → settled b l ≡ true → (u v : Status) → Has l u → Goes arrays c b u v → Has (exits b l) v
+  exits-all : (b : Block) (l : List Status) → settled b l ≡ true → (u v : Status) → Has l u → Goes layout c b u v → Has (exits b l) v
   exits-all done l s u v h g = subst (Has l) g h
-  exits-all (act k x b) l s u v h g = exits-all b (map (status-after arrays c x) l) s (status-after arrays c x u) v (map-in (status-after arrays c x) l u h) g
+  exits-all (act k x b) l s u v h g = exits-all b (map (status-after layout c x) l) s (status-after layout c x u) v (map-in (status-after layout c x) l u h) g
   exits-all (branch k x y b) l s u v h g =
       let s₁ = and-out (settled x l) _ s in
       let s₂ = and-out (settled y l) _ (s₁ .1) in
@@ -136,32 +136,32 @@ module _ (arrays : Arrays) (c : ℕ) where
       let s₂ = and-out (has-all m (exits x m)) _ (s₁ .1) in
       exits-all b m (s₂ .1) (g .0) v (star-keeps (Has m) (λ u w h r. has-all-true m (exits x m) (s₂ .0) w (exits-all x m (s₁ .0) u w h r)) (g .1) (has-left l (exits x l) u h)) (g .2)
 
-  unmet-from : (k : ℕ) (x : Action) (l : List Status) (r : ℕ) → Has (unmet k x l) r → From l (λ u r. (k ≡ r) × (met-in arrays c x u ≡ false)) r
+  unmet-from : (k : ℕ) (x : Action) (l : List Status) (r : ℕ) → Has (unmet k x l) r → From l (λ u r. (k ≡ r) × (met-in layout c x u ≡ false)) r
   unfolding unmet
   unmet-from k x [] r h = absurd h
-  unmet-from k x (w ∷ l) r h = go (met-in arrays c x w) refl (unmet-from k x l r) h
+  unmet-from k x (w ∷ l) r h = go (met-in layout c x w) refl (unmet-from k x l r) h
     where
-      go : (b : Bool) → met-in arrays c x w ≡ b → (Has (unmet k x l) r → From l (λ u r. (k ≡ r) × (met-in arrays c x u ≡ false)) r) →
-          Has (cond b (unmet k x l) (k ∷ unmet k x l)) r → From (w ∷ l) (λ u r. (k ≡ r) × (met-in arrays c x u ≡ false)) r
+      go : (b : Bool) → met-in layout c x w ≡ b → (Has (unmet k x l) r → From l (λ u r. (k ≡ r) × (met-in layout c x u ≡ false)) r) →
+          Has (cond b (unmet k x l) (k ∷ unmet k x l)) r → From (w ∷ l) (λ u r. (k ≡ r) × (met-in layout c x u ≡ false)) r
       go true e f h = let p = f h in (p .0, inr (p .1), p .2)
       go false e f (inl q) = (w, inl refl, (q, e))
       go false e f (inr h) = let p = f h in (p .0, inr (p .1), p .2)
 
-  unmet-all : (k : ℕ) (x : Action) (l : List Status) (u : Status) → Has l u → met-in arrays c x u ≡ false → Has (unmet k x l) k
+  unmet-all : (k : ℕ) (x : Action) (l : List Status) (u : Status) → Has l u → met-in layout c x u ≡ false → Has (unmet k x l) k
   unfolding unmet
   unmet-all k x [] u h m = absurd h
   unmet-all k x (w ∷ l) u (inl e) m = rw (e, m) (inl refl)
-  unmet-all k x (w ∷ l) u (inr h) m = go (met-in arrays c x w) (unmet-all k x l u h m)
+  unmet-all k x (w ∷ l) u (inr h) m = go (met-in layout c x w) (unmet-all k x l u h m)
     where
       go : (b : Bool) → Has (unmet k x l) k → Has (cond b (unmet k x l) (k ∷ unmet k x l)) k
       go true h = h
       go false h = inr h
 
-  stops-from : (b : Block) (l : List Status) (r : ℕ) → Has (stops b l) r → From l (Stops arrays c b) r
+  stops-from : (b : Block) (l : List Status) (r : ℕ) → Has (stops b l) r → From l (Stops layout c b) r
   stops-from done l r h = absurd h
   stops-from (act k x b) l r h = elim (has-out (unmet k x l) _ r h) [
     | inl e ↦ let p = unmet-from k x l r e in (p .0, p .1, inl (p .2))
-    | inr e ↦ let p = stops-from b _ r e in let q = map-out (status-after arrays c x) l (p .0) (p .1) in (q .0, q .1, inr (rw (q .2) (p .2)))
+    | inr e ↦ let p = stops-from b _ r e in let q = map-out (status-after layout c x) l (p .0) (p .1) in (q .0, q .1, inr (rw (q .2) (p .2)))
   ]
   stops-from (branch k x y b) l r h = elim (has-out (stops x l ++ stops y l) _ r h) [
     | inl e ↦ elim (has-out (stops x l) (stops y l) r e) [
@@ -178,10 +178,10 @@ module _ (arrays : Arrays) (c : ℕ) where
     | inr e ↦ let p = stops-from b (l ++ exits x l) r e in let q = turned-from x l (p .0) (exits-from x l (p .0)) (p .1) in (q .0, q .1, (p .0, q .2, inr (p .2)))
   ]
 
-  stops-all : (b : Block) (l : List Status) → settled b l ≡ true → (u : Status) (r : ℕ) → Has l u → Stops arrays c b u r → Has (stops b l) r
+  stops-all : (b : Block) (l : List Status) → settled b l ≡ true → (u : Status) (r : ℕ) → Has l u → Stops layout c b u r → Has (stops b l) r
   stops-all done l s u r h t = absurd t
   stops-all (act k x b) l s u r h (inl t) = has-left (unmet k x l) _ r (subst (Has (unmet k x l)) (t .0) (unmet-all k x l u h (t .1)))
-  stops-all (act k x b) l s u r h (inr t) = has-right (unmet k x l) _ r (stops-all b (map (status-after arrays c x) l) s (status-after arrays c x u) r (map-in (status-after arrays c x) l u h) t)
+  stops-all (act k x b) l s u r h (inr t) = has-right (unmet k x l) _ r (stops-all b (map (status-after layout c x) l) s (status-after layout c x u) r (map-in (status-after layout c x) l u h) t)
   stops-all (branch k x y b) l s u r h (inl t) = has-left (stops x l ++ stops y l) _ r (elim t [
     | inl p ↦ has-left (stops x l) (stops y l) r (stops-all x l (and-out (settled x l) _ s .0) u r h p)
     | inr p ↦ has-right (stops x l) (stops y l) r (stops-all y l (and-out (settled y l) _ (and-out (settled x l) _ s .1) .0) u r h p)
@@ -242,19 +242,19 @@ fits-over P f t h (suc n) e = let p = and-out (t n) (each-cell t n) e in fits-ce
 module _ (plan : Plan) where
   -- at the start
   abbrev pub begins : ℕ → List Status
-  begins c = status-of (plan .arrays) c (start (plan .arrays)) ∷ []
+  begins c = status-of (plan .layout) c (start (plan .layout)) ∷ []
 
   abbrev pub tried : Verdict
-  tried = over-cells (λ c. lowest (stops (plan .arrays) c (plan .body) (begins c))) (cells (plan .arrays))
+  tried = over-cells (λ c. lowest (stops (plan .layout) c (plan .body) (begins c))) (cell-count (plan .layout))
 
   abbrev pub settles : Bool
-  settles = each-cell (λ c. settled (plan .arrays) c (plan .body) (begins c)) (cells (plan .arrays))
+  settles = each-cell (λ c. settled (plan .layout) c (plan .body) (begins c)) (cell-count (plan .layout))
 
   pub tried-answers : settles ≡ true → Answers plan tried
-  tried-answers e = exact plan tried .0 (fits-over (StopsAt plan) _ _ least (cells (plan .arrays)) e)
+  tried-answers e = exact plan tried .0 (fits-over (StopsAt plan) _ _ least (cell-count (plan .layout)) e)
     where
-      least : (c : ℕ) → settled (plan .arrays) c (plan .body) (begins c) ≡ true → Least (lowest (stops (plan .arrays) c (plan .body) (begins c))) (λ r. StopsAt plan r c)
-      least c s = let l = least-lowest (stops (plan .arrays) c (plan .body) (begins c)) in record {
-        named = λ m q. let p = stops-from (plan .arrays) c (plan .body) (begins c) m (l .named m q) in elim (p .1) [ inl d ↦ rw d (p .2) | inr d ↦ absurd d ];
-        least = λ r t. l .least r (stops-all (plan .arrays) c (plan .body) (begins c) s _ r (inl refl) t);
+      least : (c : ℕ) → settled (plan .layout) c (plan .body) (begins c) ≡ true → Least (lowest (stops (plan .layout) c (plan .body) (begins c))) (λ r. StopsAt plan r c)
+      least c s = let l = least-lowest (stops (plan .layout) c (plan .body) (begins c)) in record {
+        named = λ m q. let p = stops-from (plan .layout) c (plan .body) (begins c) m (l .named m q) in elim (p .1) [ inl d ↦ rw d (p .2) | inr d ↦ absurd d ];
+        least = λ r t. l .least r (stops-all (plan .layout) c (plan .body) (begins c) s _ r (inl refl) t);
       }

@@ -5,19 +5,19 @@ use mathlib.Core.Logic.{_⊎_, inl, inr}
 use mathlib.Core.List.{List, [], _∷_, _++_}
 use mathlib.Core.Bool.{Bool, true, false, cond, _&&_, _||_, false≢true, true≢false}
 use Rattle.model.specs.Lists.{any}
-use Rattle.model.specs.Sides.{Side, Arrays}
+use Rattle.model.specs.Sides.{Side, Layout}
 use Rattle.model.specs.Effects.{Action}
 use Rattle.model.specs.Blocks.{Block, act, branch, loop}
 use Rattle.model.specs.Judging.{Way, writes-cell, always-writes}
 use Rattle.model.specs.Claims.{ClaimWritten}
 use Rattle.model.proofs.Booleans.{or-out, or-left, or-right, or-none, and-out, and-none, any-append}
 
-module _ (arrays : Arrays) (s : Side) (c : ℕ) where
+module _ (layout : Layout) (s : Side) (c : ℕ) where
   abbrev writes : Action → Bool
-  writes = writes-cell arrays s c
+  writes = writes-cell layout s c
 
   abbrev always : Block → Bool
-  always = always-writes arrays s c
+  always = always-writes layout s c
 
   arm : (z : Bool) (x y : Block) → always x ≡ true → always y ≡ true → always (cond z x y) ≡ true
   arm true x y e f = e
@@ -44,9 +44,9 @@ module _ (arrays : Arrays) (s : Side) (c : ℕ) where
     pub choices : List Bool
     pub records : List Action
     pub way : Way b choices ds records
-    pub none : any (writes-cell arrays s c) records ≡ false
+    pub none : any (writes-cell layout s c) records ≡ false
 
-  pub unwritten : (b : Block) (ds : List Bool) → always-writes arrays s c b ≡ false → Unwritten b ds
+  pub unwritten : (b : Block) (ds : List Bool) → always-writes layout s c b ≡ false → Unwritten b ds
   unwritten Block.done ds e = record { choices = ds; records = []; way = Way.done; none = refl }
   unwritten (act r x b) ds e = let f = or-none (writes x) (always b) e in go (f .0) (unwritten b ds (f .1))
     where
@@ -77,4 +77,4 @@ module _ (arrays : Arrays) (s : Side) (c : ℕ) where
   written-back b f false e = let i = unwritten b [] e in absurd (true≢false (sym (f (i .choices) [] (i .records) (i .way)) ∙ i .none))
 
 pub always-written : ClaimWritten
-always-written arrays s c b = (λ e cs ds w h. way-writes arrays s c h e, λ f. written-back arrays s c b f (always-writes arrays s c b) refl)
+always-written layout s c b = (λ e cs ds w h. way-writes layout s c h e, λ f. written-back layout s c b f (always-writes layout s c b) refl)

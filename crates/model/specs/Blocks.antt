@@ -1,6 +1,6 @@
 -- The records of a body as a tree (document 01, 'A record' and 'A branch or loop may hold further branches and loops').
 use Prim.Native.Nat.{ℕ, suc, _+_}
-use Rattle.model.specs.Sides.{Arrays}
+use Rattle.model.specs.Sides.{Layout}
 use Rattle.model.specs.Effects.{Action}
 
 -- what is left to do: a record with its number, its arms if it has some, and the rest
@@ -34,5 +34,5 @@ numbered r (loop _ x b) = loop r (numbered (suc r) x) (numbered (suc r + size x)
 
 -- a plain plan: its arrays and its body
 pub record Plan : Type 0 where
-  pub arrays : Arrays
+  pub layout : Layout
   pub body : Block

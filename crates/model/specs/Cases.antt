@@ -20,7 +20,7 @@ pub record Case : Type 0 where
 
 -- its plan, the records numbered from 0
 abbrev pub plan-of : Case → Plan
-plan-of row = record { arrays = row .cells ∷ []; body = numbered 0 (row .body) }
+plan-of row = record { layout = record { lengths = row .cells ∷ [] }; body = numbered 0 (row .body) }
 
 -- a row from its three parts
 abbrev pub case : ℕ → Block → Verdict → Case

@@ -5,25 +5,25 @@ use mathlib.Core.List.{List}
 use mathlib.Core.Bool.{Bool, false}
 use Rattle.model.specs.declared.Verdict.{Verdict}
 use Rattle.model.specs.declared.Verdict.the-variants.{Accepted, Stopped, Refused}
-use Rattle.model.specs.Sides.{cells}
+use Rattle.model.specs.Sides.{cell-count}
 use Rattle.model.specs.Effects.{Action, met}
 use Rattle.model.specs.Blocks.{Block, act, Plan}
 use Rattle.model.specs.Runs.{Config, carry, begin, Reached, Ends, stopped}
 
 -- "For the check's answer a run is carried on: an unmet record .. acts all the same"
 abbrev pub Carried : Plan → List Bool → Config → Type 0
-Carried plan cs k = Reached (carry (plan .arrays)) (begin plan cs) k
+Carried plan cs k = Reached (carry (plan .layout)) (begin plan cs) k
 
 -- "an unmet record counts as stopping at each unmet cell": some carried-on run stops at record r in cell c
 pub record MayStop (plan : Plan) (r c : ℕ) : Type 0 where
-  pub cell : c < cells (plan .arrays)
+  pub cell : c < cell-count (plan .layout)
   pub choices : List Bool
   pub config : Config
   pub carried : Carried plan choices config
   pub action : Action
   pub rest : Block
   pub left : config .left ≡ act r action rest
-  pub unmet : met (plan .arrays) action (config .state) c ≡ false
+  pub unmet : met (plan .layout) action (config .state) c ≡ false
 
 -- "The named record is the lowest at which some carried-on run stops, and the cell is the lowest that stops there in some run."
 abbrev pub Answers : Plan → Verdict → Type 0

@@ -1,5 +1,5 @@
 -- What is proved of these definitions: each theorem that a reader relies on, by name, with the place of its proof.
-use Prim.Native.Nat.{ℕ, suc, _+_, _≤_, _<_}
+use Prim.Native.Nat.{ℕ, suc, _<_}
 use mathlib.Core.Path.{_≡_}
 use mathlib.Core.Logic.{_↔_}
 use mathlib.Core.Bool.{Bool, true}
@@ -7,7 +7,7 @@ use mathlib.Core.List.{List}
 use Rattle.model.specs.declared.Verdict.{Verdict}
 use Rattle.model.specs.declared.Verdict.the-variants.{Accepted}
 use Rattle.model.specs.Lists.{any}
-use Rattle.model.specs.Sides.{Side, at, Arrays, cells, length-of, first-of, array-of}
+use Rattle.model.specs.Sides.{Side, at, Layout, cell-count, span-of, in-span}
 use Rattle.model.specs.Effects.{Action}
 use Rattle.model.specs.Blocks.{Block, Plan}
 use Rattle.model.specs.Runs.{Config, Ending, finished, Run, Ends, tally}
@@ -17,14 +17,14 @@ use Rattle.model.specs.Expanding.{expansion}
 use Rattle.model.specs.Demand.{latest-write, moved-cells, Moves, Demand3}
 use Rattle.model.specs.Cases.{twelve, AllAnswer, StopsFirstAt2, nearly}
 
--- CLAIM (proofs/Numbering, `own-cells`): "Cells are numbered from 0 through all arrays in order": array a has those from its first on, as many as its length
+-- CLAIM (proofs/Numbering, `one-array`): "Cells are numbered from 0 through all arrays in order": each cell is in one array, and in one only
 abbrev pub ClaimCells : Type 0
-ClaimCells = (arrays : Arrays) (a c : ℕ) → c < cells arrays →
-    (array-of arrays c ≡ a) ↔ ((first-of arrays a ≤ c) × (c < first-of arrays a + length-of arrays a))
+ClaimCells = (layout : Layout) (c : ℕ) → c < cell-count layout →
+    (a : ℕ) × (in-span (span-of layout a) c ≡ true) × ((b : ℕ) → in-span (span-of layout b) c ≡ true → b ≡ a)
 
 -- CLAIM (proofs/Stamps, `latest-tracked`): in every carried-on run a cell's latest stamp is that of its latest write
 abbrev pub ClaimLatest : Type 0
-ClaimLatest = (plan : Plan) (cs : List Bool) (k : Config) → Carried plan cs k → (c : ℕ) → k .state .latest c ≡ latest-write (plan .arrays) (k .history) c
+ClaimLatest = (plan : Plan) (cs : List Bool) (k : Config) → Carried plan cs k → (c : ℕ) → k .state .latest c ≡ latest-write (plan .layout) (k .history) c
 
 -- CLAIM (proofs/Stamps, `fresh`): and no copy has the stamp of the next write
 abbrev pub ClaimFresh : Type 0
@@ -53,9 +53,9 @@ ClaimCases = AllAnswer twelve × StopsFirstAt2 × AllAnswer nearly
 
 -- CLAIM (proofs/Written, `always-written`): the test of a W is exact: it passes exactly if every way through the block writes the cell
 abbrev pub ClaimWritten : Type 0
-ClaimWritten = (arrays : Arrays) (s : Side) (c : ℕ) (b : Block) →
-    (always-writes arrays s c b ≡ true)
-    ↔ ((cs ds : List Bool) (w : List Action) → Way b cs ds w → any (writes-cell arrays s c) w ≡ true)
+ClaimWritten = (layout : Layout) (s : Side) (c : ℕ) (b : Block) →
+    (always-writes layout s c b ≡ true)
+    ↔ ((cs ds : List Bool) (w : List Action) → Way b cs ds w → any (writes-cell layout s c) w ≡ true)
 
 -- CLAIM (proofs/Demand3, `demand3`): demand 3 holds of every accepted declared plan and every list of choices
 abbrev pub Claim3 : Type 0
@@ -64,4 +64,4 @@ Claim3 = (plan : DeclaredPlan) → Accepts plan → (cs : List Bool) → Demand3
 -- CLAIM (proofs/Demand3, `moves-add`): the cells moved by a finished run are those that the moves of its arrays come to
 abbrev pub ClaimMoved : Type 0
 ClaimMoved = (plan : DeclaredPlan) → Accepts plan → (cs : List Bool) (k : Config) → Ends (expansion plan) cs k finished →
-    (m : Moves plan cs k) × (tally (plan .arrays) (k .history) .moved ≡ moved-cells (plan .arrays) (m .made))
+    (m : Moves plan cs k) × (tally (plan .layout) (k .history) .moved ≡ moved-cells (plan .layout) (m .made))

@@ -5,7 +5,7 @@ use mathlib.Core.List.{List, [], _∷_, _++_, map, reverseAux as onto}
 use mathlib.Core.Bool.{Bool, true, false, cond, _&&_}
 use lib.Dec.{eqb}
 use Rattle.model.specs.Lists.{any}
-use Rattle.model.specs.Sides.{Side, host, other, is, at, Arrays, cells, length-of, Cells, within}
+use Rattle.model.specs.Sides.{Side, host, other, is, at, Layout, cell-count, span-of, Cells, within}
 use Rattle.model.specs.Effects.{Action, read, write, copy, need, mark}
 use Rattle.model.specs.Blocks.{Block, act}
 use Rattle.model.specs.Runs.{Event, Config, finished, stopped, Run, Ends, tally}
@@ -13,17 +13,17 @@ use Rattle.model.specs.Judging.{Mode, R, W, RW, reads, writes, Declarati
 use Rattle.model.specs.Expanding.{expansion}
 
 -- stamp k if the record is a write that covers cell c, else the stamp before it
-abbrev pub stamp-after : Arrays → ℕ → Action → ℕ → ℕ → ℕ
-stamp-after arrays c (read s x) k before = before
-stamp-after arrays c (write s x) k before = cond (within arrays x c) k before
-stamp-after arrays c (copy s x) k before = before
-stamp-after arrays c (need s a) k before = before
-stamp-after arrays c (mark s a) k before = before
+abbrev pub stamp-after : Layout → ℕ → Action → ℕ → ℕ → ℕ
+stamp-after layout c (read s x) k before = before
+stamp-after layout c (write s x) k before = cond (within layout x c) k before
+stamp-after layout c (copy s x) k before = before
+stamp-after layout c (need s a) k before = before
+stamp-after layout c (mark s a) k before = before
 
 -- "The latest write of a cell is the last executed write record that covers it, and its stamp is that record's k; before any, the stamp is 0."
-abbrev pub latest-write : Arrays → List Event → ℕ → ℕ
-latest-write arrays [] c = 0
-latest-write arrays (e ∷ l) c = stamp-after arrays c (e .action) (suc (tally arrays l .writes)) (latest-write arrays l c)
+abbrev pub latest-write : Layout → List Event → ℕ → ℕ
+latest-write layout [] c = 0
+latest-write layout (e ∷ l) c = stamp-after layout c (e .action) (suc (tally layout l .writes)) (latest-write layout l c)
 
 -- a walk through body 0, from the choices cs and the passes called before it (the last one first) to those after it:
 -- "The branches and loops inside a called pass take their choices from that list too."
@@ -89,9 +89,9 @@ moves a [] = 0
 moves a (d ∷ l) = cond (eqb (d .declaration .array) a && d .copied) (suc (moves a l)) (moves a l)
 
 -- "A copy moves all its cells, a need that copies the whole array": the cells that these declarations moved
-abbrev pub moved-cells : Arrays → List Made → ℕ
-moved-cells arrays [] = 0
-moved-cells arrays (d ∷ l) = moved-cells arrays l + cond (d .copied) (length-of arrays (d .declaration .array)) 0
+abbrev pub moved-cells : Layout → List Made → ℕ
+moved-cells layout [] = 0
+moved-cells layout (d ∷ l) = moved-cells layout l + cond (d .copied) (span-of layout (d .declaration .array) .length) 0
 
 -- an interval of array a begins after these declarations: with the last of them, a declared write on side w, or with the start, on the host
 pub data Opens (a : ℕ) : List Made → Side → Type 0 where
@@ -123,9 +123,9 @@ pub record Demand3 (plan : DeclaredPlan) (cs : List Bool) : Type 0 where
   pub unstuck : (k : Config) (r c : ℕ) → Ends (expansion plan) cs k (stopped r c) → ⊥
   -- every read gets the stamp of the latest write ("A read gets its cells' copies on its side")
   pub reads : (k : Config) → Run (expansion plan) cs k → (r : ℕ) (s : Side) (x : Cells) (b : Block) → k .left ≡ act r (read s x) b →
-      (c : ℕ) → c < cells (plan .arrays) → within (plan .arrays) x c ≡ true → k .state .held s c ≡ at (latest-write (plan .arrays) (k .history) c)
+      (c : ℕ) → c < cell-count (plan .layout) → within (plan .layout) x c ≡ true → k .state .held s c ≡ at (latest-write (plan .layout) (k .history) c)
   -- at each moment each cell is current on some side: a copy of it holds the stamp of the latest write
-  pub current : (k : Config) → Run (expansion plan) cs k → (c : ℕ) → c < cells (plan .arrays) →
-      (s : Side) × (k .state .held s c ≡ at (latest-write (plan .arrays) (k .history) c))
+  pub current : (k : Config) → Run (expansion plan) cs k → (c : ℕ) → c < cell-count (plan .layout) →
+      (s : Side) × (k .state .held s c ≡ at (latest-write (plan .layout) (k .history) c))
   -- in a finished run each array moves exactly when it must between two declared writes
   pub moved : (k : Config) → Ends (expansion plan) cs k finished → Moves plan cs k

@@ -2,7 +2,7 @@
 use Prim.Native.Nat.{ℕ, suc}
 use mathlib.Core.Bool.{Bool, true, cond, not, _&&_, _||_}
 use lib.Dec.{eqb}
-use Rattle.model.specs.Sides.{Side, host, other, is, Stamp, never, at, equals, Arrays, array-of, Cells, within}
+use Rattle.model.specs.Sides.{Side, host, other, is, Stamp, never, at, equals, Layout, span-of, in-span, Cells, within}
 
 -- "1 read, 2 write, 3 copy: cells P to Q − 1 of the array. 4 need, 5 mark: side and array."
 pub data Action : Type 0 where
@@ -25,19 +25,19 @@ abbrev pub current : State → Side → ℕ → Bool
 current σ s c = equals (σ .held s c) (σ .latest c)
 
 -- "At the start latest and host are 0 and the card holds never"; the flags are "at the start set for the host only"
-abbrev pub start : Arrays → State
-start arrays = record { held = λ s c. cond (is s host) (at 0) never; latest = λ c. 0; flag = λ s a. is s host; writes = 0 }
+abbrev pub start : Layout → State
+start layout = record { held = λ s c. cond (is s host) (at 0) never; latest = λ c. 0; flag = λ s a. is s host; writes = 0 }
 
 -- what a record needs of cell c
-abbrev pub met : Arrays → Action → State → ℕ → Bool
+abbrev pub met : Layout → Action → State → ℕ → Bool
 -- "Read: needs its cells current on s."
-met arrays (read s x) σ c = not (within arrays x c) || current σ s c
-met arrays (write s x) σ c = true
+met layout (read s x) σ c = not (within layout x c) || current σ s c
+met layout (write s x) σ c = true
 -- "Copy: needs its cells current on the other side"
-met arrays (copy s x) σ c = not (within arrays x c) || current σ (other s) c
+met layout (copy s x) σ c = not (within layout x c) || current σ (other s) c
 -- "Need: if the array's flag for s is set, nothing. Else a copy of the whole array to s"
-met arrays (need s a) σ c = σ .flag s a || (not (eqb (array-of arrays c) a) || current σ (other s) c)
-met arrays (mark s a) σ c = true
+met layout (need s a) σ c = σ .flag s a || (not (in-span (span-of layout a) c) || current σ (other s) c)
+met layout (mark s a) σ c = true
 
 -- "the k-th executed write record (k from 1) puts stamp k in its cells on s and in latest"; `these` says which cells are its own
 abbrev pub stamped : Side → (ℕ → Bool) → State → State
@@ -62,12 +62,12 @@ abbrev pub flagged : (Side → ℕ → Bool) → State → State
 flagged flag σ = record { held = σ .held; latest = σ .latest; flag = flag; writes = σ .writes }
 
 -- what a record does, its need met or not
-abbrev pub effect : Arrays → Action → State → State
+abbrev pub effect : Layout → Action → State → State
 -- "Read: .. Changes nothing."
-effect arrays (read s x) σ = σ
-effect arrays (write s x) σ = stamped s (within arrays x) σ
-effect arrays (copy s x) σ = copied s (within arrays x) σ
+effect layout (read s x) σ = σ
+effect layout (write s x) σ = stamped s (within layout x) σ
+effect layout (copy s x) σ = copied s (within layout x) σ
 -- "Need: if the array's flag for s is set, nothing. Else a copy of the whole array to s, then both flags set."
-effect arrays (need s a) σ = cond (σ .flag s a) σ (flagged (λ t b. eqb b a || σ .flag t b) (copied s (λ c. eqb (array-of arrays c) a) σ))
+effect layout (need s a) σ = cond (σ .flag s a) σ (flagged (λ t b. eqb b a || σ .flag t b) (copied s (in-span (span-of layout a)) σ))
 -- "Mark: sets the array's flag for s, clears the other. Touches no cell."
-effect arrays (mark s a) σ = flagged (λ t b. cond (eqb b a) (is t s) (σ .flag t b)) σ
+effect layout (mark s a) σ = flagged (λ t b. cond (eqb b a) (is t s) (σ .flag t b)) σ

@@ -26,4 +26,4 @@ expand passes (Body0.loop x t) = loop 0 (expand passes x) (expand passes t)
 
 -- "The expansion has the same arrays and one body"
 abbrev pub expansion : DeclaredPlan → Plan
-expansion plan = record { arrays = plan .arrays; body = numbered 0 (expand (plan .passes) (plan .body0)) }
+expansion plan = record { layout = plan .layout; body = numbered 0 (expand (plan .passes) (plan .body0)) }

@@ -1,11 +1,11 @@
 -- Declared plans, and the rules that the judge holds a pass to (document 01, 'The plan file' and 'Judging and expanding').
-use Prim.Native.Nat.{ℕ, zero, suc, _<_}
+use Prim.Native.Nat.{ℕ, zero, suc}
 use mathlib.Core.Path.{_≡_}
 use mathlib.Core.List.{List, [], _∷_, _++_}
 use mathlib.Core.Bool.{Bool, true, false, cond, not, _&&_, _||_}
 use lib.Dec.{eqb}
 use Rattle.model.specs.Lists.{any, All}
-use Rattle.model.specs.Sides.{Side, is, Arrays, cells, array-of, within}
+use Rattle.model.specs.Sides.{Side, is, Layout, span-of, in-span, within}
 use Rattle.model.specs.Effects.{Action, read, write, copy, need, mark}
 use Rattle.model.specs.Blocks.{Block}
 
@@ -45,7 +45,7 @@ pub data Body0 : Type 0 where
 
 -- a declared plan: its arrays, body 0, and the bodies from 1 on
 pub record DeclaredPlan : Type 0 where
-  pub arrays : Arrays
+  pub layout : Layout
   pub body0 : Body0
   pub passes : List Pass
 
@@ -95,43 +95,42 @@ pub data Way : Block → List Bool → List Bool → List Action → Type 0 wher
       Way x cs ds v → Way (Block.loop r x b) ds es w → Way (Block.loop r x b) (true ∷ cs) es (v ++ w)
 
 -- whether a record writes cell c on side s
-abbrev pub writes-cell : Arrays → Side → ℕ → Action → Bool
-writes-cell arrays s c (read t x) = false
-writes-cell arrays s c (write t x) = is t s && within arrays x c
-writes-cell arrays s c (copy t x) = false
-writes-cell arrays s c (need t a) = false
-writes-cell arrays s c (mark t a) = false
+abbrev pub writes-cell : Layout → Side → ℕ → Action → Bool
+writes-cell layout s c (read t x) = false
+writes-cell layout s c (write t x) = is t s && within layout x c
+writes-cell layout s c (copy t x) = false
+writes-cell layout s c (need t a) = false
+writes-cell layout s c (mark t a) = false
 
 -- "every way through the pass, stops aside, writes every cell of the array on that side"
-abbrev pub Written : Arrays → Block → Declaration → Type 0
-Written arrays b d =
-    (c : ℕ) → c < cells arrays → array-of arrays c ≡ d .array →
-    (cs ds : List Bool) (w : List Action) → Way b cs ds w → any (writes-cell arrays (d .side) c) w ≡ true
+abbrev pub Written : Layout → Block → Declaration → Type 0
+Written layout b d =
+    (c : ℕ) → in-span (span-of layout (d .array)) c ≡ true →
+    (cs ds : List Bool) (w : List Action) → Way b cs ds w → any (writes-cell layout (d .side) c) w ≡ true
 
 -- its contrary: some way through the pass leaves a cell of the array unwritten on that side
-pub record Leaves (arrays : Arrays) (b : Block) (d : Declaration) : Type 0 where
+pub record Leaves (layout : Layout) (b : Block) (d : Declaration) : Type 0 where
   pub cell : ℕ
-  pub inside : cell < cells arrays
-  pub own : array-of arrays cell ≡ d .array
+  pub inside : in-span (span-of layout (d .array)) cell ≡ true
   pub choices : List Bool
   pub unused : List Bool
   pub records : List Action
   pub way : Way b choices unused records
-  pub unwritten : any (writes-cell arrays (d .side) cell) records ≡ false
+  pub unwritten : any (writes-cell layout (d .side) cell) records ≡ false
 
 -- `Written` of one cell, as a test that computes
-abbrev pub always-writes : Arrays → Side → ℕ → Block → Bool
-always-writes arrays s c Block.done = false
-always-writes arrays s c (Block.act r x b) = writes-cell arrays s c x || always-writes arrays s c b
-always-writes arrays s c (Block.branch r x y b) = (always-writes arrays s c x && always-writes arrays s c y) || always-writes arrays s c b
-always-writes arrays s c (Block.loop r x b) = always-writes arrays s c b
+abbrev pub always-writes : Layout → Side → ℕ → Block → Bool
+always-writes layout s c Block.done = false
+always-writes layout s c (Block.act r x b) = writes-cell layout s c x || always-writes layout s c b
+always-writes layout s c (Block.branch r x y b) = (always-writes layout s c x && always-writes layout s c y) || always-writes layout s c b
+always-writes layout s c (Block.loop r x b) = always-writes layout s c b
 
 -- the rules for a pass: "declared at most once", "a read needs .. a write .. barred", "Where W is declared, every way .."
-pub record Rules (arrays : Arrays) (p : Pass) : Type 0 where
+pub record Rules (layout : Layout) (p : Pass) : Type 0 where
   pub once : declared-once (p .declarations) ≡ true
   pub permitted : every (permits (p .declarations)) (p .body) ≡ true
-  pub written : All (λ (d : Declaration). d .mode ≡ W → Written arrays (p .body) d) (p .declarations)
+  pub written : All (λ (d : Declaration). d .mode ≡ W → Written layout (p .body) d) (p .declarations)
 
 -- "Accepted is the judge's answer, given exactly where none of its numbers holds"; "Passes that nobody calls are judged too."
 abbrev pub Accepts : DeclaredPlan → Type 0
-Accepts plan = All (Rules (plan .arrays)) (plan .passes)
+Accepts plan = All (Rules (plan .layout)) (plan .passes)

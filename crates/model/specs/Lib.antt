@@ -12,3 +12,4 @@ pub mod Verdicts
 pub mod Demand
 pub mod Cases
 pub mod Claims
+pub mod Inner

@@ -1,5 +1,5 @@
--- Two words on lists and one on places in memory, for the definitions after them.
-use Prim.Native.Nat.{ℕ, _+_}
+-- Words on lists, and one on places in memory, for the definitions after them.
+use Prim.Native.Nat.{ℕ, zero, suc, _+_}
 use mathlib.Core.Bool.{Bool, false, _||_}
 use mathlib.Core.List.{List, [], _∷_}
 
@@ -13,6 +13,17 @@ module _ {A : Type 0} where
   abbrev pub All : (A → Type 0) → List A → Type 0
   All P [] = Unit {0}
   All P (x ∷ l) = P x × All P l
+
+-- all numbers of a list, added up
+abbrev pub sum : List ℕ → ℕ
+sum [] = 0
+sum (n ∷ l) = n + sum l
+
+-- the first k of them, added up
+unfoldable pub sum-before : List ℕ → ℕ → ℕ
+sum-before [] k = 0
+sum-before (n ∷ l) zero = 0
+sum-before (n ∷ l) (suc k) = n + sum-before l k
 
 -- a place in memory is a block and a byte in it: the place n bytes further on in the same block
 abbrev pub further : ℕ × ℕ → ℕ → ℕ × ℕ

@@ -5,7 +5,7 @@ use mathlib.Core.List.{List, [], _∷_}
 use mathlib.Core.Bool.{Bool, false, cond, not}
 use mathlib.Core.Option.{Option, none, some}
 use Rattle.model.specs.declared.Tally.{Tally}
-use Rattle.model.specs.Sides.{Arrays, cells, length-of}
+use Rattle.model.specs.Sides.{Layout, cell-count, span-of}
 use Rattle.model.specs.Effects.{Action, read, write, copy, need, mark, State, start, met, effect}
 use Rattle.model.specs.Blocks.{Block, done, act, branch, loop, _then_, Plan}
 
@@ -43,8 +43,8 @@ pub data Step : Type 0 where
   ends : Ending → Step
 
 -- one step, stops aside: a record acts, its need met or not; "Each branch and each test of a loop takes one" choice
-abbrev pub carry : Arrays → Config → Step
-carry arrays k = go (k .left) (k .choices)
+abbrev pub carry : Layout → Config → Step
+carry layout k = go (k .left) (k .choices)
   where
     to : Block → List Bool → Step
     to b cs = next (record { left = b; choices = cs; state = k .state; history = k .history })
@@ -54,7 +54,7 @@ carry arrays k = go (k .left) (k .choices)
     go (act r x b) cs = next (record {
       left = b;
       choices = cs;
-      state = effect arrays x (k .state);
+      state = effect layout x (k .state);
       history = record { action = x; copied = copies x (k .state) } ∷ k .history;
     })
     go (branch r x y b) [] = ends (out-of-choices r)
@@ -63,13 +63,13 @@ carry arrays k = go (k .left) (k .choices)
     go (loop r x b) (c ∷ cs) = to (cond c (x then loop r x b) b) cs
 
 -- the lowest of n cells, from cell c on, in which the need of a record is unmet
-abbrev pub unmet-from : Arrays → Action → State → ℕ → ℕ → Option ℕ
-unmet-from arrays x σ c zero = none
-unmet-from arrays x σ c (suc n) = cond (met arrays x σ c) (unmet-from arrays x σ (suc c) n) (some c)
+abbrev pub unmet-from : Layout → Action → State → ℕ → ℕ → Option ℕ
+unmet-from layout x σ c zero = none
+unmet-from layout x σ c (suc n) = cond (met layout x σ c) (unmet-from layout x σ (suc c) n) (some c)
 
 -- the lowest of all cells in which the need of a record is unmet, if there is one
-abbrev pub lowest-unmet : Arrays → Action → State → Option ℕ
-lowest-unmet arrays x σ = unmet-from arrays x σ 0 (cells arrays)
+abbrev pub lowest-unmet : Layout → Action → State → Option ℕ
+lowest-unmet layout x σ = unmet-from layout x σ 0 (cell-count layout)
 
 -- a stop at record r, if it has an unmet cell
 abbrev pub stop-or : ℕ → Option ℕ → Step → Step
@@ -77,18 +77,18 @@ stop-or r none otherwise = otherwise
 stop-or r (some c) otherwise = ends (stopped r c)
 
 -- one step of a run: "A run stops at a record whose need is unmet; that record then changes nothing."
-abbrev pub step : Arrays → Config → Step
-step arrays k = go (k .left)
+abbrev pub step : Layout → Config → Step
+step layout k = go (k .left)
   where
     go : Block → Step
-    go done = carry arrays k
-    go (act r x b) = stop-or r (lowest-unmet arrays x (k .state)) (carry arrays k)
-    go (branch r x y b) = carry arrays k
-    go (loop r x b) = carry arrays k
+    go done = carry layout k
+    go (act r x b) = stop-or r (lowest-unmet layout x (k .state)) (carry layout k)
+    go (branch r x y b) = carry layout k
+    go (loop r x b) = carry layout k
 
 -- "It begins at the start"
 abbrev pub begin : Plan → List Bool → Config
-begin plan cs = record { left = plan .body; choices = cs; state = start (plan .arrays); history = [] }
+begin plan cs = record { left = plan .body; choices = cs; state = start (plan .layout); history = [] }
 
 -- where steps of one kind lead from a configuration
 pub data Reached (one : Config → Step) (from : Config) : Config → Type 0 where
@@ -98,22 +98,22 @@ pub data Reached (one : Config → Step) (from : Config) : Config → Type 0 whe
 -- the run of a plan on a list of choices: the configurations that it reaches. Their states are the moments:
 -- "the start and the state after each executed record" (a test of a branch or loop leaves the state as it is)
 abbrev pub Run : Plan → List Bool → Config → Type 0
-Run plan cs k = Reached (step (plan .arrays)) (begin plan cs) k
+Run plan cs k = Reached (step (plan .layout)) (begin plan cs) k
 
 -- the run ends at configuration k, in this way
 pub record Ends (plan : Plan) (cs : List Bool) (k : Config) (e : Ending) : Type 0 where
   pub run : Run plan cs k
-  pub last : step (plan .arrays) k ≡ ends e
+  pub last : step (plan .layout) k ≡ ends e
 
 -- one executed record more: "A copy moves all its cells, a need that copies the whole array."
-abbrev pub counted : Arrays → Action → Bool → Tally → Tally
-counted arrays (read s x) m t = record { reads = suc (t .reads); writes = t .writes; moved = t .moved }
-counted arrays (write s x) m t = record { reads = t .reads; writes = suc (t .writes); moved = t .moved }
-counted arrays (copy s x) m t = record { reads = t .reads; writes = t .writes; moved = t .moved + (x .q - x .p) }
-counted arrays (need s a) m t = record { reads = t .reads; writes = t .writes; moved = t .moved + cond m (length-of arrays a) 0 }
-counted arrays (mark s a) m t = t
+abbrev pub counted : Layout → Action → Bool → Tally → Tally
+counted layout (read s x) m t = record { reads = suc (t .reads); writes = t .writes; moved = t .moved }
+counted layout (write s x) m t = record { reads = t .reads; writes = suc (t .writes); moved = t .moved }
+counted layout (copy s x) m t = record { reads = t .reads; writes = t .writes; moved = t .moved + (x .q - x .p) }
+counted layout (need s a) m t = record { reads = t .reads; writes = t .writes; moved = t .moved + cond m (span-of layout a .length) 0 }
+counted layout (mark s a) m t = t
 
 -- the tally of a history: "read records, write records, cells moved, from zero"
-abbrev pub tally : Arrays → List Event → Tally
-tally arrays [] = record { reads = 0; writes = 0; moved = 0 }
-tally arrays (e ∷ l) = counted arrays (e .action) (e .copied) (tally arrays l)
+abbrev pub tally : Layout → List Event → Tally
+tally layout [] = record { reads = 0; writes = 0; moved = 0 }
+tally layout (e ∷ l) = counted layout (e .action) (e .copied) (tally layout l)

@@ -1,9 +1,10 @@
 -- Sides, cells, stamps (document 01, 'Sides, cells, stamps').
-use Prim.Native.Nat.{ℕ, zero, suc, _+_, _-_}
-use mathlib.Core.Bool.{Bool, true, false, cond, _&&_}
-use mathlib.Core.List.{List, [], _∷_}
+use Prim.Native.Nat.{ℕ, _+_}
+use mathlib.Core.Bool.{Bool, true, false, _&&_}
+use mathlib.Core.List.{List}
 use lib.ListN.{getD}
 use lib.Dec.{ltb, leb, eqb}
+use Rattle.model.specs.Lists.{sum, sum-before}
 
 -- "Side 0 is the host, side 1 the card."
 pub data Side : Type 0 where
@@ -31,29 +32,26 @@ abbrev pub equals : Stamp → ℕ → Bool
 equals never k = false
 equals (at j) k = eqb j k
 
--- the plan's arrays, in order, by their lengths
-abbrev pub Arrays : Type 0
-Arrays = List ℕ
+-- what a plan's contents say, and its records refer to: "per array its length"
+pub record Layout : Type 0 where
+  pub lengths : List ℕ
 
 -- "Cells are numbered from 0 through all arrays in order": how many there are
-abbrev pub cells : Arrays → ℕ
-cells [] = 0
-cells (n ∷ arrays) = n + cells arrays
+abbrev pub cell-count : Layout → ℕ
+cell-count layout = sum (layout .lengths)
 
--- the length of array a
-abbrev pub length-of : Arrays → ℕ → ℕ
-length-of arrays a = getD arrays a 0
+-- neighbouring cells: the first one's number, and how many there are
+pub record Span : Type 0 where
+  pub first : ℕ
+  pub length : ℕ
 
--- the number of array a's first cell
-unfoldable pub first-of : Arrays → ℕ → ℕ
-first-of [] a = 0
-first-of (n ∷ arrays) zero = 0
-first-of (n ∷ arrays) (suc a) = n + first-of arrays a
+-- the cells of array a
+abbrev pub span-of : Layout → ℕ → Span
+span-of layout a = record { first = sum-before (layout .lengths) a; length = getD (layout .lengths) a 0 }
 
--- the array of cell c
-unfoldable pub array-of : Arrays → ℕ → ℕ
-array-of [] c = 0
-array-of (n ∷ arrays) c = cond (ltb c n) 0 (suc (array-of arrays (c - n)))
+-- whether cell c is one of them
+abbrev pub in-span : Span → ℕ → Bool
+in-span these c = leb (these .first) c && ltb c (these .first + these .length)
 
 -- "cells P to Q − 1 of the array"
 pub record Cells : Type 0 where
@@ -62,7 +60,7 @@ pub record Cells : Type 0 where
   pub q : ℕ
 
 -- whether cell c is one of them
-unfoldable pub within : Arrays → Cells → ℕ → Bool
-within arrays x c =
-    let first = first-of arrays (x .array) in
-    eqb (array-of arrays c) (x .array) && (leb (first + x .p) c && ltb c (first + x .q))
+unfoldable pub within : Layout → Cells → ℕ → Bool
+within layout x c =
+    let these = span-of layout (x .array) in
+    in-span these c && (leb (these .first + x .p) c && ltb c (these .first + x .q))

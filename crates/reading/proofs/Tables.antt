@@ -10,8 +10,10 @@ use lib.Dec.{ltb, leb}
 use lib.ListN.{length, getD, set, length-append, length-set, List·getD-append}
 use lib.Seq.{getD-at, getD-set-same, getD-set-other, ext-getD}
 use borrow.Author.Tests.{lt-ltb, le-ltb, le-leb, lt-leb}
-use Rattle.model.specs.Sides.{Arrays, cells, length-of, first-of}
-use Rattle.reading.specs.Bytes.{array-count, body-count, table, length-at, arrays-of, records-in, sizes-of, first-record}
+use Rattle.model.specs.Lists.{sum, sum-before}
+use Rattle.model.specs.Sides.{cell-count, span-of}
+use Rattle.model.proofs.Numbering.{ends-within}
+use Rattle.reading.specs.Bytes.{array-count, body-count, table, length-at, lengths-of, layout-of, records-in, sizes-of, first-record}
 
 module _ {A : Type 0} (g : ℕ → A) where
   pub length-table : (n : ℕ) → length (table g n) ≡ n
@@ -64,45 +66,48 @@ stored-next g n m v l e = set-table _ _ n m v l (rw (lt-ltb m (m + 1) (omega ari
     ]
 
 -- the first cell of array 0, of the array after array a, and the number of cells
-pub first-zero : (l : Arrays) → first-of l 0 ≡ 0
-unfolding first-of
+pub first-zero : (l : List ℕ) → sum-before l 0 ≡ 0
+unfolding sum-before
 first-zero [] = refl
 first-zero (n ∷ l) = refl
 
-pub first-more : (l : Arrays) (a : ℕ) → first-of l (suc a) ≡ first-of l a + getD l a 0
-unfolding first-of
+pub first-more : (l : List ℕ) (a : ℕ) → sum-before l (suc a) ≡ sum-before l a + getD l a 0
+unfolding sum-before
 first-more [] a = refl
 first-more (n ∷ l) zero = omega (arith, first-zero l)
 first-more (n ∷ l) (suc a) = omega (arith, first-more l a)
 
-pub cells-first : (l : Arrays) → cells l ≡ first-of l (length l)
-unfolding first-of
+pub cells-first : (l : List ℕ) → sum l ≡ sum-before l (length l)
+unfolding sum-before
 cells-first [] = refl
 cells-first (n ∷ l) = rw (cells-first l)
 
-pub first-rises : (l : Arrays) (a b : ℕ) → a ≤ b → first-of l a ≤ first-of l b
+pub first-rises : (l : List ℕ) (a b : ℕ) → a ≤ b → sum-before l a ≤ sum-before l b
 first-rises l a zero h = let z : a ≡ 0 = omega arith in rw z (omega arith)
 first-rises l a (suc b) h = elim (decLt a (suc b)) [
   | yes m ↦ omega (arith, first-rises l a b (omega arith), first-more l b)
   | no m ↦ let z : a ≡ suc b = omega arith in rw z (omega arith)
 ]
 
+pub sums-within : (l : List ℕ) (a : ℕ) → sum-before l a ≤ sum l
+sums-within l a = omega (arith, ends-within l a)
+
 -- a file's arrays: how many they are, and how long each is
-pub arrays-counted : (f : List ℕ) → length (arrays-of f) ≡ array-count f
-unfolding arrays-of
+pub arrays-counted : (f : List ℕ) → length (lengths-of f) ≡ array-count f
+unfolding lengths-of
 arrays-counted f = length-table (length-at f) (array-count f)
 
-pub array-length : (f : List ℕ) (a : ℕ) → a < array-count f → length-of (arrays-of f) a ≡ length-at f a
-unfolding arrays-of
+pub array-length : (f : List ℕ) (a : ℕ) → a < array-count f → span-of (layout-of f) a .length ≡ length-at f a
+unfolding lengths-of
 array-length f a h = getD-table (length-at f) (array-count f) a 0 h
 
 -- the first cell of an array and the first record of a body of a file
-pub next-cell : (f : List ℕ) (a : ℕ) → a < array-count f → first-of (arrays-of f) (suc a) ≡ first-of (arrays-of f) a + length-at f a
-next-cell f a h = first-more (arrays-of f) a ∙ rw (array-length f a h)
+pub next-cell : (f : List ℕ) (a : ℕ) → a < array-count f → span-of (layout-of f) (suc a) .first ≡ span-of (layout-of f) a .first + length-at f a
+next-cell f a h = first-more (lengths-of f) a ∙ rw (array-length f a h)
 
 pub next-record : (f : List ℕ) (b : ℕ) → b < body-count f → first-record f (suc b) ≡ first-record f b + records-in f b
 unfolding sizes-of
 next-record f b h = first-more (table (records-in f) (body-count f)) b ∙ rw (getD-table (records-in f) (body-count f) b 0 h)
 
-pub all-cells : (f : List ℕ) → cells (arrays-of f) ≡ first-of (arrays-of f) (array-count f)
-all-cells f = cells-first (arrays-of f) ∙ rw (arrays-counted f)
+pub all-cells : (f : List ℕ) → cell-count (layout-of f) ≡ span-of (layout-of f) (array-count f) .first
+all-cells f = cells-first (lengths-of f) ∙ rw (arrays-counted f)

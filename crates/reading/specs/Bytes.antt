@@ -4,7 +4,8 @@ use mathlib.Core.Bool.{Bool, cond, _&&_}
 use mathlib.Core.List.{List, [], _∷_, _++_}
 use lib.ListN.{getD}
 use lib.Dec.{leb, eqb}
-use Rattle.model.specs.Sides.{Arrays, first-of}
+use Rattle.model.specs.Lists.{sum-before}
+use Rattle.model.specs.Sides.{Layout}
 use Rattle.reading.specs.declared.Fields.{Fields}
 
 -- byte i of the file, 0 past its end
@@ -37,8 +38,12 @@ unfoldable pub length-at : List ℕ → ℕ → ℕ
 length-at f a = u16-at f (4 + 2 * a)
 
 -- the lengths of all arrays
-unfoldable pub arrays-of : List ℕ → Arrays
-arrays-of f = table (length-at f) (array-count f)
+unfoldable pub lengths-of : List ℕ → List ℕ
+lengths-of f = table (length-at f) (array-count f)
+
+-- what the contents say of the arrays
+abbrev pub layout-of : List ℕ → Layout
+layout-of f = record { lengths = lengths-of f }
 
 -- "per body four bytes: its records (two bytes ..), its declarations (one byte), zero": where body b's entry stands
 unfoldable pub entry-at : List ℕ → ℕ → ℕ
@@ -62,7 +67,7 @@ sizes-of f = table (records-in f) (body-count f)
 
 -- the number of body b's first record
 abbrev pub first-record : List ℕ → ℕ → ℕ
-first-record f b = first-of (sizes-of f) b
+first-record f b = sum-before (sizes-of f) b
 
 -- the records of all bodies
 abbrev pub record-count : List ℕ → ℕ

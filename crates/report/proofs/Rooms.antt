@@ -8,9 +8,9 @@ use lib.Dec.{ltb, eqb}
 use lib.ListN.{length}
 use borrow.Author.Tests.{le-ltb}
 use Rattle.model.specs.declared.Verdict.the-variants.{Accepted}
-use Rattle.model.specs.Sides.{cells}
+use Rattle.model.specs.Sides.{cell-count}
 use Rattle.model.specs.Rows.{Row, row, first}
-use Rattle.reading.specs.Bytes.{kind-of, arrays-of}
+use Rattle.reading.specs.Bytes.{kind-of, layout-of}
 use Rattle.format.specs.Opening.{open-rows, opening}
 use Rattle.model.proofs.Rows.{passed, unheld}
 use Rattle.format.proofs.Walking.{opened-facts}
@@ -19,7 +19,7 @@ use Rattle.report.specs.Reports.{answer-with-room}
 
 module _ (f choices : List ℕ) (b : Lent) (on-host : 4096 ≤ length (b .host)) (on-card : 4096 ≤ length (b .card)) (on-latest : 4096 ≤ length (b .latest)) where
   abbrev n : ℕ
-  n = cells (arrays-of f)
+  n = cell-count (layout-of f)
 
   abbrev rows : List Row
   rows = open-rows f ++ (row (not (eqb (kind-of f) 2)) 11 0 ∷ [])

@@ -8,10 +8,10 @@ use lib.ListN.{length}
 use borrow.Author.Tests.{eq-eqb, ne-eqb, eqb-true, lt-ltb, ltb-false, not-false}
 use Rattle.model.specs.declared.Verdict.{Verdict}
 use Rattle.model.specs.declared.Verdict.the-variants.{Accepted, Refused}
-use Rattle.model.specs.Sides.{cells}
+use Rattle.model.specs.Sides.{cell-count}
 use Rattle.model.proofs.Booleans.{or-none}
 use Rattle.model.specs.Rows.{first}
-use Rattle.reading.specs.Bytes.{kind-of, arrays-of}
+use Rattle.reading.specs.Bytes.{kind-of, layout-of}
 use Rattle.format.specs.Opening.{open-rows, opening}
 use Rattle.model.proofs.Rows.{holds, skips, skipped, empty, stop, pass, passed}
 use Rattle.run.specs.Running.{Lent, run-rows}
@@ -27,7 +27,7 @@ module _ (f choices : List ℕ) (b : Lent) where
     unfolding run-rows opening
     row-declared n = pass (open-rows f) _ (Refused 11 0) e (holds _ 11 0 _ (rw (ne-eqb (kind-of f) 2 n)))
 
-    module _ (k : kind-of f ≡ 2) (n : ℕ) (q : n ≡ cells (arrays-of f)) where
+    module _ (k : kind-of f ≡ 2) (n : ℕ) (q : n ≡ cell-count (layout-of f)) where
       kind-row : not (eqb (kind-of f) 2) ≡ false
       kind-row = rw (eq-eqb (kind-of f) 2 k)
 
@@ -48,9 +48,9 @@ module _ (f choices : List ℕ) (b : Lent) where
   pub record Begins : Type 0 where
     pub opens : Accepted ≡ opening f
     pub kind : kind-of f ≡ 2
-    pub host-room : cells (arrays-of f) ≤ length (b .host)
-    pub card-room : cells (arrays-of f) ≤ length (b .card)
-    pub latest-room : cells (arrays-of f) ≤ length (b .latest)
+    pub host-room : cell-count (layout-of f) ≤ length (b .host)
+    pub card-room : cell-count (layout-of f) ≤ length (b .card)
+    pub latest-room : cell-count (layout-of f) ≤ length (b .latest)
     pub few : length choices ≤ 65536
 
   pub begins : Accepted ≡ first (run-rows f choices b) → Begins
@@ -60,7 +60,7 @@ module _ (f choices : List ℕ) (b : Lent) where
       let k = skipped _ _ _ _ (p .1) in
       let s = skipped _ _ _ _ (k .1) in
       let m = skipped _ _ _ _ (s .1) in
-      let n = cells (arrays-of f) in
+      let n = cell-count (layout-of f) in
       let o = or-none (ltb (length (b .host)) n || ltb (length (b .card)) n) _ (s .0) in
       let u = or-none (ltb (length (b .host)) n) _ (o .0) in
       record {

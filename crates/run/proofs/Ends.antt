@@ -10,10 +10,10 @@ use lib.Seq.{getD-append-add, getD-drop, ext-getD}
 use Rattle.model.specs.declared.Verdict.{Verdict}
 use Rattle.model.specs.declared.Verdict.the-variants.{Accepted, Stopped, Refused}
 use Rattle.model.specs.declared.Tally.{Tally}
-use Rattle.model.specs.Sides.{host, card, Arrays, cells}
+use Rattle.model.specs.Sides.{host, card, Layout, cell-count}
 use Rattle.model.specs.Runs.{Config, finished, stopped, out-of-choices, Ending, step, Step}
 use Rattle.model.specs.Rows.{first}
-use Rattle.reading.specs.Bytes.{table, arrays-of}
+use Rattle.reading.specs.Bytes.{table, layout-of, lengths-of}
 use Rattle.format.specs.Plans.{plan-of}
 use Rattle.model.proofs.Rows.{never-stops}
 use Rattle.reading.proofs.Tables.{length-table, getD-table}
@@ -45,36 +45,36 @@ module _ (n : ℕ) (held : ℕ → ℕ) (before after : List ℕ) (room : n ≤ 
 
 -- a run that has ended, from memories h, c and l and a tally t
 module _ (f choices : List ℕ) (m : Runner) (own others latest : List ℕ) (u : Tally) (w : Reaches f choices m own others latest u) (still : m .running ≡ false)
-    (h c l : List ℕ) (t : Tally) (sh : Same (cells (arrays-of f)) h own) (sc : Same (cells (arrays-of f)) c others) (sl : Same (cells (arrays-of f)) l latest)
-    (answer : End) (q : answer ≡ end-with (length (arrays-of f)) (w .config .state .flag host) (w .config .state .flag card) (m .place .used) (m .verdict)) where
+    (h c l : List ℕ) (t : Tally) (sh : Same (cell-count (layout-of f)) h own) (sc : Same (cell-count (layout-of f)) c others) (sl : Same (cell-count (layout-of f)) l latest)
+    (answer : End) (q : answer ≡ end-with (length (lengths-of f)) (w .config .state .flag host) (w .config .state .flag card) (m .place .used) (m .verdict)) where
   abbrev k : Config
   k = w .config
 
-  abbrev arrays : Arrays
-  arrays = arrays-of f
+  abbrev layout : Layout
+  layout = layout-of f
 
-  last-lent : lent own others latest u ≡ holding arrays k (lent h c l t)
+  last-lent : lent own others latest u ≡ holding layout k (lent h c l t)
   last-lent =
-      let a = memory-is (cells arrays) (λ i. number-of (k .state .held host i)) h own (omega (arith, w .stands .holds .own-room, sh .size)) sh (w .stands .holds .own-held) in
-      let b = memory-is (cells arrays) (λ i. number-of (k .state .held card i)) c others (omega (arith, w .stands .holds .others-room, sc .size)) sc (w .stands .holds .others-held) in
-      let d = memory-is (cells arrays) (k .state .latest) l latest (omega (arith, w .stands .holds .latest-room, sl .size)) sl (w .stands .holds .latest-held) in
+      let a = memory-is (cell-count layout) (λ i. number-of (k .state .held host i)) h own (omega (arith, w .stands .holds .own-room, sh .size)) sh (w .stands .holds .own-held) in
+      let b = memory-is (cell-count layout) (λ i. number-of (k .state .held card i)) c others (omega (arith, w .stands .holds .others-room, sc .size)) sc (w .stands .holds .others-held) in
+      let d = memory-is (cell-count layout) (k .state .latest) l latest (omega (arith, w .stands .holds .latest-room, sl .size)) sl (w .stands .holds .latest-held) in
       λ i. record { host = a i; card = b i; latest = d i; tally = record { reads = w .stands .holds .reads i; writes = w .stands .holds .writes i; moved = w .stands .holds .moved i } }
 
   used-is : m .place .used ≡ length (choices-of choices) - length (k .choices)
   used-is = rw (w .stands .choices-left, length-map, length-map, length-drop) (omega (arith, w .stands .used))
 
-  ran-as : (e : Ending) → step arrays k ≡ Step.ends e → answer ≡ end-of arrays (choices-of choices) k e → Ran f choices (lent h c l t) (lent own others latest u) answer
+  ran-as : (e : Ending) → step layout k ≡ Step.ends e → answer ≡ end-of layout (choices-of choices) k e → Ran f choices (lent h c l t) (lent own others latest u) answer
   unfolding plan-of
   ran-as e s a = record { config = k; ending = e; ends = record { run = w .run; last = s }; holds = last-lent; answers = a }
 
   pub ran : Ran f choices (lent h c l t) (lent own others latest u) answer
-  ran = go (over .ending) (over .last) (q ∙ ap (end-with (length arrays) (k .state .flag host) (k .state .flag card) (m .place .used)) (over .says))
+  ran = go (over .ending) (over .last) (q ∙ ap (end-with (length (layout .lengths)) (k .state .flag host) (k .state .flag card) (m .place .used)) (over .says))
     where
       over : Over f k (m .verdict)
       over = rw still at (w .ended)
 
-      go : (e : Ending) → step arrays k ≡ Step.ends e → answer ≡ end-with (length arrays) (k .state .flag host) (k .state .flag card) (m .place .used) (said-of e) → Ran f choices (lent h c l t) (lent own others latest u) answer
-      go finished s a = ran-as finished s (a ∙ ap (λ v. end-with (length arrays) (k .state .flag host) (k .state .flag card) v Accepted) used-is)
+      go : (e : Ending) → step layout k ≡ Step.ends e → answer ≡ end-with (length (layout .lengths)) (k .state .flag host) (k .state .flag card) (m .place .used) (said-of e) → Ran f choices (lent h c l t) (lent own others latest u) answer
+      go finished s a = ran-as finished s (a ∙ ap (λ v. end-with (length (layout .lengths)) (k .state .flag host) (k .state .flag card) v Accepted) used-is)
       go (stopped r d) s a = ran-as (stopped r d) s a
       go (out-of-choices r) s a = ran-as (out-of-choices r) s a
 

@@ -8,11 +8,11 @@ use lib.ListN.{length, drop}
 use Rattle.model.specs.declared.Verdict.{Verdict}
 use Rattle.model.specs.declared.Verdict.the-variants.{Accepted, Stopped, Refused}
 use Rattle.model.specs.declared.Tally.{Tally}
-use Rattle.model.specs.Sides.{host, card, Arrays, cells}
+use Rattle.model.specs.Sides.{host, card, Layout, cell-count}
 use Rattle.model.specs.Runs.{Config, Ending, finished, stopped, out-of-choices, Ends, tally}
 use Rattle.model.specs.Verdicts.{stop}
 use Rattle.model.specs.Rows.{Row, row, first}
-use Rattle.reading.specs.Bytes.{kind-of, table, arrays-of}
+use Rattle.reading.specs.Bytes.{kind-of, table, layout-of}
 use Rattle.format.specs.Opening.{open-rows}
 use Rattle.format.specs.Plans.{plan-of}
 use Rattle.memories.specs.Memories.{number-of}
@@ -34,7 +34,7 @@ lent h c l t = record { host = h; card = c; latest = l; tally = t }
 -- the numbers of opening, "11 .. check or run without kind 2", "19 a memory shorter than the cells; 20 over 65,536 choices"
 unfoldable pub run-rows : List ℕ → List ℕ → Lent → List Row
 run-rows f choices before =
-    let n = cells (arrays-of f) in
+    let n = cell-count (layout-of f) in
     open-rows f ++ (row (not (eqb (kind-of f) 2)) 11 0
     ∷ row (ltb (length (before .host)) n || ltb (length (before .card)) n || ltb (length (before .latest)) n) 19 0
     ∷ row (ltb 65536 (length choices)) 20 0
@@ -45,14 +45,14 @@ unfoldable pub memory : ℕ → (ℕ → ℕ) → List ℕ → List ℕ
 memory n held before = table held n ++ drop n before
 
 -- "memories and tally hold the state" of a configuration of the run
-abbrev pub holding : Arrays → Config → Lent → Lent
-holding arrays k before =
-    let n = cells arrays in
+abbrev pub holding : Layout → Config → Lent → Lent
+holding layout k before =
+    let n = cell-count layout in
     record {
       host = memory n (λ c. number-of (k .state .held host c)) (before .host);
       card = memory n (λ c. number-of (k .state .held card c)) (before .card);
       latest = memory n (k .state .latest) (before .latest);
-      tally = tally arrays (k .history);
+      tally = tally layout (k .history);
     }
 
 -- an answer without the figures of a run that is done
@@ -61,9 +61,9 @@ no-end v = record { verdict = v; used = 0; «host_flags» = 0; «card_flags» = 
 
 -- "21 stopped (record and lowest unmet cell); 22 choices spent (record)"; "The end answers done, with the choices used, both sets of flags
 -- and the number of arrays current on each side by their flags."
-abbrev pub end-of : Arrays → List Bool → Config → Ending → End
-end-of arrays cs k finished =
-    let n = length arrays in
+abbrev pub end-of : Layout → List Bool → Config → Ending → End
+end-of layout cs k finished =
+    let n = length (layout .lengths) in
     record {
       verdict = Accepted;
       used = length cs - length (k .choices);
@@ -72,8 +72,8 @@ end-of arrays cs k finished =
       «on_host» = set-flags n (k .state .flag host);
       «on_card» = set-flags n (k .state .flag card);
     }
-end-of arrays cs k (stopped r c) = no-end (stop r c)
-end-of arrays cs k (out-of-choices r) = no-end (Refused 22 r)
+end-of layout cs k (stopped r c) = no-end (stop r c)
+end-of layout cs k (out-of-choices r) = no-end (Refused 22 r)
 
 -- the run ends at a configuration in one way (model, `Endings`): "At 21 and 22 memories and tally hold the state just before the named record,
 -- at done the run's last state"
@@ -81,8 +81,8 @@ pub record Ran (f choices : List ℕ) (before after : Lent) (answer : End) : Typ
   pub config : Config
   pub ending : Ending
   pub ends : Ends (plan-of f) (choices-of choices) config ending
-  pub holds : after ≡ holding (arrays-of f) config before
-  pub answers : answer ≡ end-of (arrays-of f) (choices-of choices) config ending
+  pub holds : after ≡ holding (layout-of f) config before
+  pub answers : answer ≡ end-of (layout-of f) (choices-of choices) config ending
 
 -- by what the rows say: "Numbers 1 to 17, 19 and 20 change no buffer"
 abbrev pub RunsAs : List ℕ → List ℕ → Lent → Lent → End → Verdict → Type 0

@@ -8,7 +8,9 @@ use native.Mathlib.Omega.{arith}
 use native.Mathlib.Nat.{pow-suc}
 use lib.Dec.{eqb}
 use borrow.Author.Tests.{eq-eqb, ne-eqb}
-use Rattle.model.specs.Sides.{first-of, array-of, within}
+use Rattle.model.specs.Lists.{sum-before}
+use Rattle.model.specs.Inner.Holders.{holder}
+use Rattle.model.specs.Sides.{within}
 use Rattle.model.specs.Effects.{Action, start}
 use Rattle.model.specs.Runs.{Ending, stopped, here}
 use Rattle.model.proofs.Stamps.{past}
@@ -34,16 +36,16 @@ module _ (test : Option Ending → Bool) where
 
   -- the card alone is as good as the host alone
   mirrored : (n r : ℕ) → by-status test n r on-card ≡ by-status test n r on-host
-  unfolding within array-of first-of
+  unfolding within holder sum-before
   mirrored zero r = refl
   mirrored (suc n) r = let e = mirrored n (suc r) in omega arith
 
   from-one : (n r : ℕ) → by-status test (suc n) r on-host ≡ 3 * by-status test n (suc r) on-host + by-status test n (suc r) on-both + 2 * stop n r
-  unfolding within array-of first-of
+  unfolding within holder sum-before
   from-one n r = let e = mirrored n (suc r) in omega arith
 
   from-both : (n r : ℕ) → by-status test (suc n) r on-both ≡ 2 * by-status test n (suc r) on-host + 4 * by-status test n (suc r) on-both
-  unfolding within array-of first-of
+  unfolding within holder sum-before
   from-both n r = let e = mirrored n (suc r) in omega arith
 
   -- so many sequences that leave the cell current on one side, so many that leave it on both, and all that follows them

@@ -8,14 +8,14 @@ use lib.Dec.{eqb, ltb}
 use Rattle.model.specs.declared.Verdict.{Verdict}
 use Rattle.model.specs.declared.Verdict.the-variants.{Accepted, Stopped, Refused}
 use Rattle.model.specs.Rows.{row, first}
-use Rattle.model.specs.Sides.{host, card, Arrays, Cells}
+use Rattle.model.specs.Sides.{host, card, Layout, Cells}
 use Rattle.model.specs.Effects.{Action, read, write, copy}
 use Rattle.model.specs.Blocks.{Block, done, act, Plan}
 use Rattle.model.specs.Runs.{Config, Ending, finished, stopped, out-of-choices, Step, next, ends, step, begin}
 
 -- "over one cell": one array of one cell
-abbrev pub one-cell : Arrays
-one-cell = 1 ∷ []
+abbrev pub one-cell : Layout
+one-cell = record { lengths = 1 ∷ [] }
 
 abbrev pub cell : Cells
 cell = record { array = 0; p = 0; q = 1 }
@@ -36,7 +36,7 @@ records r (x ∷ l) = act r x (records (suc r) l)
 
 -- the plan of a sequence
 abbrev pub plan-of : List Action → Plan
-plan-of l = record { arrays = one-cell; body = records 0 l }
+plan-of l = record { layout = one-cell; body = records 0 l }
 
 -- a step leads on, or the run has ended
 abbrev pub after-step : (Config → Option Ending) → Step → Option Ending

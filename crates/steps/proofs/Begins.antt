@@ -7,11 +7,11 @@ use native.Mathlib.Omega.{arith}
 use lib.ListN.{length, getD, set}
 use lib.Seq.{getD-set-same, getD-set-other}
 use borrow.Author.Tests.{lt-ltb, le-leb}
-use Rattle.model.specs.Sides.{cells}
+use Rattle.model.specs.Sides.{cell-count}
 use Rattle.model.specs.Runs.{begin, here}
 use Rattle.model.proofs.Stamps.{past}
 use Rattle.model.proofs.Through.{then-done}
-use Rattle.reading.specs.Bytes.{kind-of, arrays-of, array-count, record-count}
+use Rattle.reading.specs.Bytes.{kind-of, layout-of, array-count, record-count, lengths-of}
 use Rattle.contents.specs.declared.Opened.{Opened}
 use Rattle.contents.specs.Found.{found}
 use Rattle.format.specs.Plans.{plan-of}
@@ -33,10 +33,10 @@ module _ (f choices : List ℕ) (facts : Facts f) (kind : kind-of f ≡ 2) where
   unfolding left-of rest-of
   start-left room = plain-body f facts ∙ sym (then-done (block-between f 0 (record-count f)))
 
-  module _ (n : ℕ) (q : n ≡ cells (arrays-of f)) (h c l own others latest : List ℕ)
+  module _ (n : ℕ) (q : n ≡ cell-count (layout-of f)) (h c l own others latest : List ℕ)
       (rh : n ≤ length h) (rc : n ≤ length c) (rl : n ≤ length l)
       (on-host : Changed 0 n (λ i. 0) h own) (on-card : Changed 0 n (λ i. 18446744073709551615) c others) (on-latest : Changed 0 n (λ i. 0) l latest) where
-    filled : (v : ℕ) (a b : List ℕ) → Changed 0 n (λ i. v) a b → (i : ℕ) → i < cells (arrays-of f) → getD b i 0 ≡ v
+    filled : (v : ℕ) (a b : List ℕ) → Changed 0 n (λ i. v) a b → (i : ℕ) → i < cell-count (layout-of f) → getD b i 0 ≡ v
     filled v a b w i k = w .cell i ∙ rw (le-leb 0 i (omega arith), lt-ltb i n (omega arith))
 
     pub reaches-start : (bodies : ℕ) → Plain f bodies → length choices ≤ 65536 → (room : List ℕ) → length room ≡ 65 → Starts f room →
@@ -67,13 +67,13 @@ module _ (f choices : List ℕ) (facts : Facts f) (kind : kind-of f ≡ 2) where
           others-held = filled 18446744073709551615 c others on-card;
           latest-held = filled 0 l latest on-latest;
           own-flags = rw (arrays-counted f) refl;
-          others-flags = sym (none (length (arrays-of f)));
+          others-flags = sym (none (length (lengths-of f)));
           reads = refl;
           writes = refl;
           moved = refl;
           counted = refl;
           past = past {plan = plan-of f} {cs = choices-of choices} here;
-          knows = rw (arrays-counted f) at (start-known (arrays-of f) own others latest (λ c i. filled 0 h own on-host c i ∙ sym (filled 0 l latest on-latest c i)));
+          knows = rw (arrays-counted f) at (start-known (layout-of f) own others latest (λ c i. filled 0 h own on-host c i ∙ sym (filled 0 l latest on-latest c i)));
         };
         few = omega (arith, facts .bounds .records);
         few-moved = omega arith;

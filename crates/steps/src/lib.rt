@@ -3,8 +3,8 @@ ghost use mathlib.Core.Path.{_≡_};
 ghost use mathlib.Core.Bool.{false};
 ghost use Prim.Native.Nat.{_≤_};
 ghost use lib.ListN.{length};
-ghost use Rattle.model.specs.Sides.{cells};
-ghost use Rattle.reading.specs.Bytes.{arrays-of};
+ghost use Rattle.model.specs.Sides.{cell-count};
+ghost use Rattle.reading.specs.Bytes.{layout-of};
 ghost use Rattle.memories.specs.Inner.Ranges.{Room, Changed, Same};
 ghost use Rattle.standing.specs.Inner.Standing.{runner, Reaches};
 ghost use Rattle.steps.specs.Inner.Beginning.{Fronted, first-machine, ReachesEnd, Ready};
@@ -78,7 +78,7 @@ pub fn run_lent(
     tally: &mut Tally,
 ) -> Machine
     requires { ⌜ Reaches (now plan) (now choices) (runner m (now room)) (now host) (now card) (now latest) (now tally) ⌝ }
-    ensures { λ r. ⌜ Reaches (now (plan .entry)) (now (choices .entry)) (runner r (now (room .exit))) (now (host .exit)) (now (card .exit)) (now (latest .exit)) (now (tally .exit)) × (r .running ≡ false) × Same (cells (arrays-of (now (plan .entry)))) (now (host .entry)) (now (host .exit)) × Same (cells (arrays-of (now (plan .entry)))) (now (card .entry)) (now (card .exit)) × Same (cells (arrays-of (now (plan .entry)))) (now (latest .entry)) (now (latest .exit)) ⌝ }
+    ensures { λ r. ⌜ Reaches (now (plan .entry)) (now (choices .entry)) (runner r (now (room .exit))) (now (host .exit)) (now (card .exit)) (now (latest .exit)) (now (tally .exit)) × (r .running ≡ false) × Same (cell-count (layout-of (now (plan .entry)))) (now (host .entry)) (now (host .exit)) × Same (cell-count (layout-of (now (plan .entry)))) (now (card .entry)) (now (card .exit)) × Same (cell-count (layout-of (now (plan .entry)))) (now (latest .entry)) (now (latest .exit)) ⌝ }
 {
     let mut n = m;
     while n.running {
@@ -99,7 +99,7 @@ fn run_steps(
     t: Tally,
 ) -> Stepped
     requires { ⌜ Reaches (now plan) (now choices) (runner m (now room)) (now host) (now card) (now latest) t ⌝ }
-    ensures { λ r. ⌜ Reaches (now (plan .entry)) (now (choices .entry)) (runner (r .machine) (now (room .exit))) (now (host .exit)) (now (card .exit)) (now (latest .exit)) (r .tally) × (r .machine .running ≡ false) × Same (cells (arrays-of (now (plan .entry)))) (now (host .entry)) (now (host .exit)) × Same (cells (arrays-of (now (plan .entry)))) (now (card .entry)) (now (card .exit)) × Same (cells (arrays-of (now (plan .entry)))) (now (latest .entry)) (now (latest .exit)) ⌝ }
+    ensures { λ r. ⌜ Reaches (now (plan .entry)) (now (choices .entry)) (runner (r .machine) (now (room .exit))) (now (host .exit)) (now (card .exit)) (now (latest .exit)) (r .tally) × (r .machine .running ≡ false) × Same (cell-count (layout-of (now (plan .entry)))) (now (host .entry)) (now (host .exit)) × Same (cell-count (layout-of (now (plan .entry)))) (now (card .entry)) (now (card .exit)) × Same (cell-count (layout-of (now (plan .entry)))) (now (latest .entry)) (now (latest .exit)) ⌝ }
 {
     let mut u = t;
     let n = run_lent(m, plan, choices, host, card, latest, room, &mut u);
@@ -121,9 +121,9 @@ pub fn run_to_end(
     requires { ⌜ Ready (now plan) o (now choices) (now host) (now card) (now latest) ⌝ }
     ensures reaches { λ r. ⌜ ReachesEnd (now (plan .entry)) (now (choices .entry)) (r .machine) (now (host .exit)) (now (card .exit)) (now (latest .exit)) (r .tally) ⌝ }
     ensures ended { λ r. ⌜ r .machine .running ≡ false ⌝ }
-    ensures host { λ _. ⌜ Same (cells (arrays-of (now (plan .entry)))) (now (host .entry)) (now (host .exit)) ⌝ }
-    ensures card { λ _. ⌜ Same (cells (arrays-of (now (plan .entry)))) (now (card .entry)) (now (card .exit)) ⌝ }
-    ensures latest { λ _. ⌜ Same (cells (arrays-of (now (plan .entry)))) (now (latest .entry)) (now (latest .exit)) ⌝ }
+    ensures host { λ _. ⌜ Same (cell-count (layout-of (now (plan .entry)))) (now (host .entry)) (now (host .exit)) ⌝ }
+    ensures card { λ _. ⌜ Same (cell-count (layout-of (now (plan .entry)))) (now (card .entry)) (now (card .exit)) ⌝ }
+    ensures latest { λ _. ⌜ Same (cell-count (layout-of (now (plan .entry)))) (now (latest .entry)) (now (latest .exit)) ⌝ }
 {
     let starts = o.array_starts;
     let mut room = [0u16; ROOM];

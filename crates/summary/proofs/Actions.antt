@@ -5,11 +5,11 @@ use mathlib.Core.Bool.{_&&_, _||_, and-true}
 use mathlib.Core.List.{List}
 use native.Mathlib.Omega.{arith}
 use lib.Dec.{eqb, leb, ltb}
-use Rattle.model.specs.Sides.{Arrays, length-of, first-of, array-of}
+use Rattle.model.specs.Sides.{Layout, span-of}
 use Rattle.model.specs.Blocks.{act}
 use Rattle.model.proofs.Numbering.{array-from}
 use Rattle.reading.specs.declared.Fields.{Fields}
-use Rattle.reading.specs.Bytes.{arrays-of, fields-at, first-arm, second-arm}
+use Rattle.reading.specs.Bytes.{layout-of, fields-at, first-arm, second-arm}
 use Rattle.format.specs.Plans.{side-of, action-of}
 use Rattle.format.specs.Inner.Walks.{Walkable, block-between}
 use Rattle.format.proofs.Trees.{block-act, no-arms}
@@ -24,14 +24,14 @@ module _ (x : Fields) (h : (1 ≤ x .kind) × (x .kind ≤ 5)) where
   pub act-side : touched.on (action-of x) ≡ side-of (x .side)
   act-side = by-kind x h (λ y. touched.on y ≡ side-of (x .side)) (λ z. refl) (λ z. refl) (λ z. refl) (λ z. refl) (λ z. refl)
 
-  pub act-touches : (arrays : Arrays) (c array offset : ℕ) → array-of arrays c ≡ array → c ≡ first-of arrays array + offset →
-      touched.touches arrays c (action-of x) ≡ (eqb array (x .array) && (leb 4 (x .kind) || (leb (x .p) offset && ltb offset (x .q))))
-  act-touches arrays c array offset e g = by-kind x h (λ y. touched.touches arrays c y ≡ (eqb array (x .array) && (leb 4 (x .kind) || (leb (x .p) offset && ltb offset (x .q)))))
-      (λ z. touched.within-here arrays c array offset e g _ ∙ rw z)
-      (λ z. touched.within-here arrays c array offset e g _ ∙ rw z)
-      (λ z. touched.within-here arrays c array offset e g _ ∙ rw z)
-      (λ z. rw (e, z, and-true (eqb array (x .array))))
-      (λ z. rw (e, z, and-true (eqb array (x .array))))
+  pub act-touches : (layout : Layout) (c array offset : ℕ) → offset < span-of layout array .length → c ≡ span-of layout array .first + offset →
+      touched.touches layout c (action-of x) ≡ (eqb array (x .array) && (leb 4 (x .kind) || (leb (x .p) offset && ltb offset (x .q))))
+  act-touches layout c array offset l g = by-kind x h (λ y. touched.touches layout c y ≡ (eqb array (x .array) && (leb 4 (x .kind) || (leb (x .p) offset && ltb offset (x .q)))))
+      (λ z. touched.within-here layout c array offset l g _ ∙ rw z)
+      (λ z. touched.within-here layout c array offset l g _ ∙ rw z)
+      (λ z. touched.within-here layout c array offset l g _ ∙ rw z)
+      (λ z. rw (array-from layout array c (omega arith) (omega arith), z, and-true (eqb array (x .array))))
+      (λ z. rw (array-from layout array c (omega arith) (omega arith), z, and-true (eqb array (x .array))))
 
   -- record r of those up to `end`
   pub next-act : (f : List ℕ) (r end : ℕ) → r < end → Walkable f r end → x ≡ fields-at f r → block-between f r end ≡ act r (action-of x) (block-between f (r + 1) end)
@@ -41,6 +41,6 @@ module _ (x : Fields) (h : (1 ≤ x .kind) × (x .kind ≤ 5)) where
       rw n at (block-act f r end l g x e (λ z. omega arith) (λ z. omega arith))
 
   -- it touches cell `offset` of an array where it covers it
-  pub act-covers : (f : List ℕ) (array offset : ℕ) → offset < length-of (arrays-of f) array → touched.touches (arrays-of f) (cell-at f array offset) (action-of x) ≡ covers x array offset
+  pub act-covers : (f : List ℕ) (array offset : ℕ) → offset < span-of (layout-of f) array .length → touched.touches (layout-of f) (cell-at f array offset) (action-of x) ≡ covers x array offset
   unfolding covers
-  act-covers f array offset l = act-touches (arrays-of f) (cell-at f array offset) array offset (array-from (arrays-of f) array (cell-at f array offset) (omega arith) (omega arith)) refl
+  act-covers f array offset l = act-touches (layout-of f) (cell-at f array offset) array offset l refl

@@ -12,7 +12,7 @@ use lib.Seq.{getD-set-same, getD-set-other}
 use borrow.Author.Tests.{eqb-true, eq-eqb, ne-eqb}
 use Rattle.model.specs.Blocks.{Block, done, loop}
 use Rattle.model.proofs.Status.{Status}
-use Rattle.reading.specs.Bytes.{arrays-of, record-count}
+use Rattle.reading.specs.Bytes.{layout-of, record-count}
 use Rattle.format.specs.Inner.Walks.{block-between}
 use Rattle.statuses.specs.declared.acts.Found.{Found}
 use Rattle.statuses.specs.Inner.Sets.{statuses, index, bit, In, Union}
@@ -93,7 +93,7 @@ module _ (f : List ℕ) (c class : ℕ) where
         back : (u : Status) → index u ≡ w → In one u
         back u e = o (index u) (index-below u) ∙ eq-eqb _ _ e
 
-        ran : Found-in (arrays-of f) c (block-between f (r + 1) second) (λ u. index u ≡ w) low t
+        ran : Found-in (layout-of f) c (block-between f (r + 1) second) (λ u. index u ≡ w) low t
         ran = ran-from (λ u. (to u, back u)) (p .ran)
 
         past : (j : ℕ) → length rows ≤ j → _≡_ {A = ℕ} (getD (set rows (16 * r + w) y) j 0) 0
@@ -121,7 +121,7 @@ module _ (f : List ℕ) (c class : ℕ) where
   pub passed-branch : (kind r : ℕ) (x y : Block) (rows rows′ : List ℕ) (from : Status → Type 0) (low : ℕ) (one two t : Found) → kind ≡ 6 → Union (t .set) (one .set) (two .set) → t .low ≡ two .low →
       Passed f c class x from low rows one → Passed f c class y from (one .low) rows′ two → Passed f c class (nest kind r x y) from low rows′ t
   passed-branch kind r x y rows rows′ from low one two t e ts tl p q = record {
-    ran = rw (eq-eqb kind 6 e) (ran-branch (arrays-of f) c x y from low one two (p .ran) r (q .ran) t ts tl);
+    ran = rw (eq-eqb kind 6 e) (ran-branch (layout-of f) c x y from low one two (p .ran) r (q .ran) t ts tl);
     exact = rw tl (q .exact);
   }
 

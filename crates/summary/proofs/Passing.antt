@@ -10,11 +10,11 @@ use native.Mathlib.Omega.{arith}
 use lib.Dec.{leb, ltb}
 use lib.ListN.{getD}
 use borrow.Author.Tests.{leb-true, leb-false, ltb-false}
-use Rattle.model.specs.Sides.{length-of}
+use Rattle.model.specs.Sides.{span-of}
 use Rattle.model.specs.Blocks.{Block, done, act, branch, loop, _then_}
 use Rattle.model.proofs.Through.{then-done}
 use Rattle.reading.specs.declared.Fields.{Fields}
-use Rattle.reading.specs.Bytes.{first-arm, second-arm, arrays-of, record-count, fields-at}
+use Rattle.reading.specs.Bytes.{first-arm, second-arm, layout-of, record-count, fields-at}
 use Rattle.format.specs.Plans.{action-of}
 use Rattle.format.specs.Inner.Walks.{Plain, Walkable, block-between}
 use Rattle.format.proofs.Walking.{opened-facts}
@@ -27,12 +27,12 @@ use Rattle.summary.proofs.Actions.{next-act, act-covers}
 -- the walk from r up to m, of the records up to `end`, passes by a block that leaves the cell alone
 pub record Skipped (f : List ℕ) (c r m end : ℕ) : Type 0 where
   pub passed : Block
-  pub untouched : Untouched (arrays-of f) c passed
+  pub untouched : Untouched (layout-of f) c passed
   pub joins : passed then block-between f m end ≡ block-between f r end
   pub walk : Walkable f m end
   pub later : r ≤ m
 
-module _ (f : List ℕ) (bodies : ℕ) (w : Plain f bodies) (c array offset : ℕ) (is : c ≡ cell-at f array offset) (inside : offset < length-of (arrays-of f) array) (ahead : List ℕ) (a : Ahead f array offset 0 ahead) where
+module _ (f : List ℕ) (bodies : ℕ) (w : Plain f bodies) (c array offset : ℕ) (is : c ≡ cell-at f array offset) (inside : offset < span-of (layout-of f) array .length) (ahead : List ℕ) (a : Ahead f array offset 0 ahead) where
   abbrev at : ℕ → ℕ
   at k = getD ahead k 0
 
@@ -79,8 +79,8 @@ module _ (f : List ℕ) (bodies : ℕ) (w : Plain f bodies) (c array offset : �
   ]
 
   -- a block that is passed by as a whole
-  skipped-all : (r end : ℕ) → Skipped f c r end end → Untouched (arrays-of f) c (block-between f r end)
-  skipped-all r end t = subst (Untouched (arrays-of f) c) (sym (then-done (t .passed)) ∙ (ap (λ b. t .passed then b) (sym (block-none f end end (omega arith))) ∙ t .joins)) (t .untouched)
+  skipped-all : (r end : ℕ) → Skipped f c r end end → Untouched (layout-of f) c (block-between f r end)
+  skipped-all r end t = subst (Untouched (layout-of f) c) (sym (then-done (t .passed)) ∙ (ap (λ b. t .passed then b) (sym (block-none f end end (omega arith))) ∙ t .joins)) (t .untouched)
 
   module _ (r end m : ℕ) (h : r < end) (few : end ≤ record-count f) (g : Walkable f r end) where
     known : Here f r end (fields-at f r)

@@ -6,12 +6,12 @@ use mathlib.Core.List.{List}
 use native.Nat.{ℕᴺ-discrete}
 use native.Mathlib.Omega.{arith}
 use borrow.Author.Tests.{eq-eqb, ne-eqb}
-use Rattle.model.specs.Sides.{length-of}
+use Rattle.model.specs.Sides.{span-of}
 use Rattle.model.specs.Blocks.{Block, done, act, branch, loop, _then_}
 use Rattle.model.proofs.Through.{then-done}
 use Rattle.model.proofs.Demand.Blocks.{then-assoc}
 use Rattle.reading.specs.declared.Fields.{Fields}
-use Rattle.reading.specs.Bytes.{arrays-of, record-count, fields-at, first-arm, second-arm}
+use Rattle.reading.specs.Bytes.{layout-of, record-count, fields-at, first-arm, second-arm}
 use Rattle.format.specs.Plans.{side-of, action-of}
 use Rattle.format.specs.Inner.Walks.{Walkable, block-between}
 use Rattle.format.proofs.Trees.{block-none, block-branch, block-loop}
@@ -30,7 +30,7 @@ use Rattle.summary.proofs.Passing.{Skipped}
 pub record Prefix (f : List ℕ) (c from r end : ℕ) (start t : Found) : Type 0 where
   pub before : Block
   pub joins : before then block-between f r end ≡ block-between f from end
-  pub ran : Found-in (arrays-of f) c before (In (start .set)) (start .low) t
+  pub ran : Found-in (layout-of f) c before (In (start .set)) (start .low) t
 
 -- the first arm of record r
 pub body-here : (f : List ℕ) (r end i j : ℕ) (x : Fields) → x ≡ fields-at f r → i ≡ first-arm x → end ≤ record-count f → Arms f r end i j → Body f r (r + 1 + i)
@@ -38,36 +38,36 @@ body-here f r end i j x e ei l a = record { ends = rw (ei, e); below = omega (ar
 
 module _ (f : List ℕ) (c from end : ℕ) (start : Found) where
   pub prefix-none : Prefix f c from from end start start
-  prefix-none = record { before = done; joins = refl; ran = ran-none (arrays-of f) c start }
+  prefix-none = record { before = done; joins = refl; ran = ran-none (layout-of f) c start }
 
   -- the records from r up to `next` make block b
   pub prefix-more : (t t′ : Found) (r next : ℕ) (b : Block) → Prefix f c from r end start t → block-between f r end ≡ b then block-between f next end →
-      Found-in (arrays-of f) c b (In (t .set)) (t .low) t′ → Prefix f c from next end start t′
+      Found-in (layout-of f) c b (In (t .set)) (t .low) t′ → Prefix f c from next end start t′
   prefix-more t t′ r next b p e n = record {
     before = p .before then b;
     joins = then-assoc (p .before) b (block-between f next end) ∙ (ap (λ x. p .before then x) (sym e) ∙ p .joins);
-    ran = ran-then (arrays-of f) c (p .before) b (In (start .set)) (start .low) t t′ (p .ran) n;
+    ran = ran-then (layout-of f) c (p .before) b (In (start .set)) (start .low) t t′ (p .ran) n;
   }
 
-  pub prefix-all : (t : Found) (r : ℕ) → end ≤ r → Prefix f c from r end start t → Found-in (arrays-of f) c (block-between f from end) (In (start .set)) (start .low) t
-  prefix-all t r h p = subst (λ b. Found-in (arrays-of f) c b (In (start .set)) (start .low) t)
+  pub prefix-all : (t : Found) (r : ℕ) → end ≤ r → Prefix f c from r end start t → Found-in (layout-of f) c (block-between f from end) (In (start .set)) (start .low) t
+  prefix-all t r h p = subst (λ b. Found-in (layout-of f) c b (In (start .set)) (start .low) t)
       (sym (then-done (p .before)) ∙ (ap (λ x. p .before then x) (sym (block-none f r end h)) ∙ p .joins)) (p .ran)
 
   -- the walk passes by what leaves the cell alone
   pub prefix-skip : (t : Found) (r next : ℕ) → Prefix f c from r end start t → Skipped f c r next end → Prefix f c from next end start t
-  prefix-skip t r next p s = prefix-more t t r next (s .passed) p (sym (s .joins)) (ran-skip (arrays-of f) c (s .passed) (s .untouched) t)
+  prefix-skip t r next p s = prefix-more t t r next (s .passed) p (sym (s .joins)) (ran-skip (layout-of f) c (s .passed) (s .untouched) t)
 
 -- record r, whose fields x were read, for cell c
 module _ (f : List ℕ) (c from end r : ℕ) (h : r < end) (g : Walkable f r end) (x : Fields) (e : x ≡ fields-at f r) (start t t′ : Found) (p : Prefix f c from r end start t) where
   -- it covers the cell
-  pub step-act : (array offset : ℕ) → c ≡ cell-at f array offset → offset < length-of (arrays-of f) array → (1 ≤ x .kind) × (x .kind ≤ 5) → covers x array offset ≡ true →
+  pub step-act : (array offset : ℕ) → c ≡ cell-at f array offset → offset < span-of (layout-of f) array .length → (1 ≤ x .kind) × (x .kind ≤ 5) → covers x array offset ≡ true →
       Ran (λ u v. touched-after (x .kind) (side-of (x .side)) u ≡ v) (λ u n. (r ≡ n) × (touched-met (x .kind) (side-of (x .side)) u ≡ false)) (In (t .set)) (t .low) t′ →
       Prefix f c from (r + 1) end start t′
   step-act array offset is inside k u m = prefix-more f c from end start t t′ r (r + 1) (act r (action-of x) done) p (next-act x k f r end h g e)
-      (ran-touched (arrays-of f) c r (action-of x) t t′ (rw is (act-covers x k f array offset inside) ∙ u) (rw (act-kind x k, act-side x k) m))
+      (ran-touched (layout-of f) c r (action-of x) t t′ (rw is (act-covers x k f array offset inside) ∙ u) (rw (act-kind x k, act-side x k) m))
 
   module _ (low : 6 ≤ x .kind) (high : x .kind ≤ 7) (i j : ℕ) (ei : i ≡ first-arm x) (ej : j ≡ second-arm x) where
-    pub step-arms : Found-in (arrays-of f) c (nest (x .kind) r (block-between f (r + 1) (r + 1 + i)) (block-between f (r + 1 + i) (r + 1 + i + j))) (In (t .set)) (t .low) t′ →
+    pub step-arms : Found-in (layout-of f) c (nest (x .kind) r (block-between f (r + 1) (r + 1 + i)) (block-between f (r + 1 + i) (r + 1 + i + j))) (In (t .set)) (t .low) t′ →
         Prefix f c from (r + 1 + i + j) end start t′
     step-arms m =
         let first = block-between f (r + 1) (r + 1 + i) in

@@ -6,7 +6,7 @@ use mathlib.Core.Bool.{Bool, true, false, not, _&&_, _||_, and-true, false≢tru
 use native.Mathlib.Omega.{arith}
 use lib.Dec.{eqb}
 use borrow.Author.Tests.{eqb-true}
-use Rattle.model.specs.Sides.{Arrays}
+use Rattle.model.specs.Sides.{Layout}
 use Rattle.model.specs.Blocks.{Block, done, loop}
 use Rattle.model.proofs.Booleans.{or-out, and-out}
 use Rattle.model.proofs.Status.{Status}
@@ -22,19 +22,19 @@ star-last : {R : Status → Status → Type 0} {u w v : Status} → Star R u w �
 star-last stay r = more r stay
 star-last (more s t) r = more s (star-last t r)
 
-module _ (arrays : Arrays) (c : ℕ) (x : Block) (start : Found) where
+module _ (layout : Layout) (c : ℕ) (x : Block) (start : Found) where
   -- some of the statuses to start with reach w
   abbrev Reach : Status → Type 0
-  Reach w = (u : Status) × In (start .set) u × Star (Goes arrays c x) u w
+  Reach w = (u : Status) × In (start .set) u × Star (Goes layout c x) u w
 
   -- t is what is found so far: the statuses in `looked` have been looked at, those in `todo` are left
   pub record Turning (t : Found) (looked todo : ℕ) : Type 0 where
     pub begun : (u : Status) → In (start .set) u → In (t .set) u
     pub came : (v : Status) → In (t .set) v → Reach v
     pub lower : t .low ≤ start .low
-    pub named : (t .low ≡ start .low) ⊎ ((w : Status) × Reach w × Stops arrays c x w (t .low))
-    pub goes : (u v : Status) → In looked u → Goes arrays c x u v → In (t .set) v
-    pub least : (u : Status) (r : ℕ) → In looked u → Stops arrays c x u r → Below (t .low) r
+    pub named : (t .low ≡ start .low) ⊎ ((w : Status) × Reach w × Stops layout c x w (t .low))
+    pub goes : (u v : Status) → In looked u → Goes layout c x u v → In (t .set) v
+    pub least : (u : Status) (r : ℕ) → In looked u → Stops layout c x u r → Below (t .low) r
     pub left : (i : ℕ) → bit todo i ≡ (bit (t .set) i && not (bit looked i))
 
   pub turning-none : Turning start 0 (start .set)
@@ -49,7 +49,7 @@ module _ (arrays : Arrays) (c : ℕ) (x : Block) (start : Found) where
   }
 
   module _ (t : Found) (looked todo : ℕ) (m : Turning t looked todo) where
-    pub turning-all : (k : ℕ) → todo ≡ 0 → Found-in arrays c (loop k x done) (In (start .set)) (start .low) t
+    pub turning-all : (k : ℕ) → todo ≡ 0 → Found-in layout c (loop k x done) (In (start .set)) (start .low) t
     turning-all k e = record {
       exits = λ v. (
         λ d. let p = m .came v d in (p .0, p .1, (v, p .2, refl)),
@@ -68,7 +68,7 @@ module _ (arrays : Arrays) (c : ℕ) (x : Block) (start : Found) where
             go true q = refl
             go false q = absurd (no-bit todo (index u) e (m .left (index u) ∙ rw (q, d)))
 
-        closed : {u v : Status} → Star (Goes arrays c x) u v → In (t .set) u → In (t .set) v
+        closed : {u v : Status} → Star (Goes layout c x) u v → In (t .set) u → In (t .set) v
         closed stay d = d
         closed {u} (more {w = w} g s) d = closed s (m .goes u w (all u d) g)
 
@@ -82,7 +82,7 @@ module _ (arrays : Arrays) (c : ℕ) (x : Block) (start : Found) where
           go true q = let p = and-out (bit (t .set) w) (not (bit looked w)) (sym (m .left w) ∙ b) in absurd (false≢true (sym (ap not q) ∙ p .1))
 
       -- a turn from it
-      pub turning-more : (row t′ : Found) (looked′ todo′ : ℕ) → Found-in arrays c x (λ u. index u ≡ w) (t .low) row →
+      pub turning-more : (row t′ : Found) (looked′ todo′ : ℕ) → Found-in layout c x (λ u. index u ≡ w) (t .low) row →
           Union (t′ .set) (t .set) (row .set) → t′ .low ≡ row .low →
           ((i : ℕ) → i < statuses → bit looked′ i ≡ (eqb i w || bit looked i)) →
           ((i : ℕ) → bit todo′ i ≡ (bit (t′ .set) i && not (bit looked′ i))) → Turning t′ looked′ todo′

@@ -6,7 +6,7 @@ use mathlib.Core.Bool.{true, false}
 use native.Mathlib.Omega.{arith}
 use lib.Dec.{eqb}
 use borrow.Author.Tests.{eqb-true}
-use Rattle.model.specs.Sides.{Arrays}
+use Rattle.model.specs.Sides.{Layout}
 use Rattle.model.specs.Effects.{Action}
 use Rattle.model.specs.Blocks.{Block, done, act, branch, _then_}
 use Rattle.model.proofs.Status.{Status}
@@ -49,10 +49,10 @@ Begins set = (i : ℕ) → i < statuses → bit set i ≡ eqb i 10
 pub start-in : (set : ℕ) → Begins set → (u : Status) → In set u ↔ (u ≡ at-start)
 start-in set b u = (λ e. index-one u at-start (eqb-true _ 10 (sym (b (index u) (index-below u)) ∙ e)), λ e. rw e (b 10 (omega arith)))
 
-module _ (arrays : Arrays) (c : ℕ) where
+module _ (layout : Layout) (c : ℕ) where
   -- t is what is found of a block
   abbrev pub Found-in : Block → (Status → Type 0) → ℕ → Found → Type 0
-  Found-in b = Ran (Goes arrays c b) (Stops arrays c b)
+  Found-in b = Ran (Goes layout c b) (Stops layout c b)
 
   pub ran-none : (t : Found) → Found-in done (In (t .set)) (t .low) t
   ran-none t = record {
@@ -66,18 +66,18 @@ module _ (arrays : Arrays) (c : ℕ) where
     pub ran-then : Found-in b (In (t .set)) (t .low) t′ → Found-in (x then b) from low t′
     ran-then n = record {
       exits = λ v. (
-        λ e. let q = n .exits v .0 e in let p = m .exits (q .0) .0 (q .1) in (p .0, p .1, goes-then arrays c x b (p .0) v .1 (q .0, p .2, q .2)),
-        λ p. let g = goes-then arrays c x b (p .0) v .0 (p .2) in n .exits v .1 (g .0, m .exits (g .0) .1 (p .0, p .1, g .1), g .2),
+        λ e. let q = n .exits v .0 e in let p = m .exits (q .0) .0 (q .1) in (p .0, p .1, goes-then layout c x b (p .0) v .1 (q .0, p .2, q .2)),
+        λ p. let g = goes-then layout c x b (p .0) v .0 (p .2) in n .exits v .1 (g .0, m .exits (g .0) .1 (p .0, p .1, g .1), g .2),
       );
       lower = omega (arith, m .lower, n .lower);
       named = elim (n .named) [
         | inl e ↦ elim (m .named) [
           | inl d ↦ inl (e ∙ d)
-          | inr p ↦ inr (p .0, p .1, stops-then arrays c x b (p .0) (t′ .low) .1 (inl (rw e (p .2))))
+          | inr p ↦ inr (p .0, p .1, stops-then layout c x b (p .0) (t′ .low) .1 (inl (rw e (p .2))))
         ]
-        | inr p ↦ let q = m .exits (p .0) .0 (p .1) in inr (q .0, q .1, stops-then arrays c x b (q .0) (t′ .low) .1 (inr (p .0, q .2, p .2)))
+        | inr p ↦ let q = m .exits (p .0) .0 (p .1) in inr (q .0, q .1, stops-then layout c x b (q .0) (t′ .low) .1 (inr (p .0, q .2, p .2)))
       ];
-      least = λ u r f s. elim (stops-then arrays c x b u r .0 s) [
+      least = λ u r f s. elim (stops-then layout c x b u r .0 s) [
         | inl a ↦ let l = m .least u r f a in (omega (arith, n .lower), omega (arith, n .lower))
         | inr p ↦ n .least (p .0) r (m .exits (p .0) .1 (u, f, p .1)) (p .2)
       ];
@@ -91,8 +91,8 @@ module _ (arrays : Arrays) (c : ℕ) where
           | inr d ↦ let p = n .exits v .0 d in (p .0, p .1, (v, inr (p .2), refl))
         ],
         λ p. in-union es v .1 (elim (p .2 .1) [
-          | inl g ↦ inl (m .exits v .1 (p .0, p .1, subst (Goes arrays c x (p .0)) (p .2 .2) g))
-          | inr g ↦ inr (n .exits v .1 (p .0, p .1, subst (Goes arrays c b (p .0)) (p .2 .2) g))
+          | inl g ↦ inl (m .exits v .1 (p .0, p .1, subst (Goes layout c x (p .0)) (p .2 .2) g))
+          | inr g ↦ inr (n .exits v .1 (p .0, p .1, subst (Goes layout c b (p .0)) (p .2 .2) g))
         ]),
       );
       lower = omega (arith, m .lower, n .lower);
@@ -114,9 +114,9 @@ module _ (arrays : Arrays) (c : ℕ) where
 
   -- one record
   module _ (k : ℕ) (x : Action) (t : Found) where
-    pub ran-touched : (t′ : Found) → touches arrays c x ≡ true →
+    pub ran-touched : (t′ : Found) → touches layout c x ≡ true →
         Ran (λ u v. touched-after (kind-of x) (on x) u ≡ v) (λ u n. (k ≡ n) × (touched-met (kind-of x) (on x) u ≡ false)) (In (t .set)) (t .low) t′ →
         Found-in (act k x done) (In (t .set)) (t .low) t′
     ran-touched t′ e = ran-iff
-        (λ u v. (λ g. touched-status-after arrays c x e u ∙ g, λ g. sym (touched-status-after arrays c x e u) ∙ g))
-        (λ u r. (λ s. inl (s .0, touched-met-in arrays c x e u ∙ s .1), elim [ inl s ↦ (s .0, sym (touched-met-in arrays c x e u) ∙ s .1) | inr s ↦ absurd s ]))
+        (λ u v. (λ g. touched-status-after layout c x e u ∙ g, λ g. sym (touched-status-after layout c x e u) ∙ g))
+        (λ u r. (λ s. inl (s .0, touched-met-in layout c x e u ∙ s .1), elim [ inl s ↦ (s .0, sym (touched-met-in layout c x e u) ∙ s .1) | inr s ↦ absurd s ]))

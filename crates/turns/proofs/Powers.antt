@@ -9,7 +9,7 @@ use native.Mathlib.Decide.{decLt}
 use native.Nat.{ℕᴺ-discrete}
 use lib.Dec.{eqb, ltb}
 use borrow.Author.Tests.{eqb-true, ltb-true}
-use Rattle.model.specs.Sides.{Arrays}
+use Rattle.model.specs.Sides.{Layout}
 use Rattle.model.specs.Blocks.{Block}
 use Rattle.model.proofs.Booleans.{and-out}
 use Rattle.model.proofs.Status.{Status}
@@ -23,14 +23,14 @@ use Rattle.statuses.proofs.Statuses.{index-below, in-union}
 use Rattle.summary.proofs.Ways.{Found-in}
 
 -- one turn, status by status
-module _ (arrays : Arrays) (c : ℕ) (x : Block) (set low : ℕ) where
+module _ (layout : Layout) (c : ℕ) (x : Block) (set low : ℕ) where
   -- t is what is found from the statuses of the set that are no more to do
   pub record Part (t : Found) (todo : ℕ) : Type 0 where
-    pub some : (v : Status) → In (t .set) v → (u : Status) × In set u × Goes arrays c x u v
-    pub rest : (u : Status) → In set u → In todo u ⊎ (((v : Status) → Goes arrays c x u v → In (t .set) v) × ((r : ℕ) → Stops arrays c x u r → Below (t .low) r))
+    pub some : (v : Status) → In (t .set) v → (u : Status) × In set u × Goes layout c x u v
+    pub rest : (u : Status) → In set u → In todo u ⊎ (((v : Status) → Goes layout c x u v → In (t .set) v) × ((r : ℕ) → Stops layout c x u r → Below (t .low) r))
     pub within : (i : ℕ) → i < statuses → bit todo i ≡ true → bit set i ≡ true
     pub lower : t .low ≤ low
-    pub named : (t .low ≡ low) ⊎ ((u : Status) × In set u × Stops arrays c x u (t .low))
+    pub named : (t .low ≡ low) ⊎ ((u : Status) × In set u × Stops layout c x u (t .low))
 
   pub part-none : (t : Found) → t .set ≡ 0 → t .low ≡ low → Part t set
   part-none t es el = record {
@@ -42,7 +42,7 @@ module _ (arrays : Arrays) (c : ℕ) (x : Block) (set low : ℕ) where
   }
 
   module _ (t : Found) (todo : ℕ) (m : Part t todo) where
-    pub part-all : todo ≡ 0 → Found-in arrays c x (In set) low t
+    pub part-all : todo ≡ 0 → Found-in layout c x (In set) low t
     part-all e = record {
       exits = λ v. (m .some v, λ p. looked (p .0) (p .1) .0 v (p .2));
       lower = m .lower;
@@ -50,10 +50,10 @@ module _ (arrays : Arrays) (c : ℕ) (x : Block) (set low : ℕ) where
       least = λ u r d s. looked u d .1 r s;
     }
       where
-        looked : (u : Status) → In set u → ((v : Status) → Goes arrays c x u v → In (t .set) v) × ((r : ℕ) → Stops arrays c x u r → Below (t .low) r)
+        looked : (u : Status) → In set u → ((v : Status) → Goes layout c x u v → In (t .set) v) × ((r : ℕ) → Stops layout c x u r → Below (t .low) r)
         looked u d = elim (m .rest u d) [ inl b ↦ absurd (no-bit todo (index u) e b) | inr p ↦ p ]
 
-    pub part-more : (w : ℕ) → w < statuses → bit todo w ≡ true → (row t′ : Found) (todo′ : ℕ) → Found-in arrays c x (λ u. index u ≡ w) (t .low) row →
+    pub part-more : (w : ℕ) → w < statuses → bit todo w ≡ true → (row t′ : Found) (todo′ : ℕ) → Found-in layout c x (λ u. index u ≡ w) (t .low) row →
         Union (t′ .set) (t .set) (row .set) → t′ .low ≡ row .low → ((i : ℕ) → i < statuses → bit todo′ i ≡ (not (eqb i w) && bit todo i)) → Part t′ todo′
     part-more w h b row t′ todo′ n es el et = record {
       some = λ v e. elim (in-union es v .0 e) [
@@ -72,7 +72,7 @@ module _ (arrays : Arrays) (c : ℕ) (x : Block) (set low : ℕ) where
         here : (u : Status) → index u ≡ w → In set u
         here u q = rw q (m .within w h b)
 
-        rest : (u : Status) → In set u → In todo′ u ⊎ (((v : Status) → Goes arrays c x u v → In (t′ .set) v) × ((r : ℕ) → Stops arrays c x u r → Below (t′ .low) r))
+        rest : (u : Status) → In set u → In todo′ u ⊎ (((v : Status) → Goes layout c x u v → In (t′ .set) v) × ((r : ℕ) → Stops layout c x u r → Below (t′ .low) r))
         rest u e = elim (m .rest u e) [
           | inl p ↦ go (eqb (index u) w) refl p
           | inr p ↦ inr (
@@ -81,7 +81,7 @@ module _ (arrays : Arrays) (c : ℕ) (x : Block) (set low : ℕ) where
           )
         ]
           where
-            go : (d : Bool) → eqb (index u) w ≡ d → In todo u → In todo′ u ⊎ (((v : Status) → Goes arrays c x u v → In (t′ .set) v) × ((r : ℕ) → Stops arrays c x u r → Below (t′ .low) r))
+            go : (d : Bool) → eqb (index u) w ≡ d → In todo u → In todo′ u ⊎ (((v : Status) → Goes layout c x u v → In (t′ .set) v) × ((r : ℕ) → Stops layout c x u r → Below (t′ .low) r))
             go false q p = inl (et (index u) (index-below u) ∙ rw (q, p))
             go true q p = let i = eqb-true (index u) w q in inr (
               λ v g. in-union es v .1 (inr (n .exits v .1 (u, i, g))),
@@ -98,18 +98,18 @@ module _ (R : Status → Status → Type 0) where
   power-split (suc n) u v p = let q = power-split n (p .0) v (p .2) in (q .0, (p .0, p .1, q .1), q .2)
 
 -- the turns
-module _ (arrays : Arrays) (c : ℕ) (x : Block) (start : Found) where
+module _ (layout : Layout) (c : ℕ) (x : Block) (start : Found) where
   -- n turns lead from one of the statuses at the start to v
   abbrev Image : ℕ → Status → Type 0
-  Image n v = (u : Status) × In (start .set) u × Power (Goes arrays c x) n u v
+  Image n v = (u : Status) × In (start .set) u × Power (Goes layout c x) n u v
 
   -- what is found after i turns; `before` is the set one turn earlier
   pub record Turns (i before : ℕ) (t : Found) : Type 0 where
     pub ends : (v : Status) → In (t .set) v ↔ Image i v
     pub earlier : (j : ℕ) → i ≡ suc j → (v : Status) → In before v ↔ Image j v
     pub lower : t .low ≤ start .low
-    pub named : (t .low ≡ start .low) ⊎ ((m : ℕ) × (m < i) × ((w : Status) × Image m w × Stops arrays c x w (t .low)))
-    pub least : (m : ℕ) (w : Status) (r : ℕ) → m < i → Image m w → Stops arrays c x w r → Below (t .low) r
+    pub named : (t .low ≡ start .low) ⊎ ((m : ℕ) × (m < i) × ((w : Status) × Image m w × Stops layout c x w (t .low)))
+    pub least : (m : ℕ) (w : Status) (r : ℕ) → m < i → Image m w → Stops layout c x w r → Below (t .low) r
 
   pub turns-none : Turns 0 0 start
   turns-none = record {
@@ -121,7 +121,7 @@ module _ (arrays : Arrays) (c : ℕ) (x : Block) (start : Found) where
   }
 
   -- n turns are done
-  pub turns-all : (n i before : ℕ) (t : Found) → Turns i before t → i ≤ n → n ≤ i → Ran (Power (Goes arrays c x) n) (StopsWithin (Goes arrays c x) (Stops arrays c x) n) (In (start .set)) (start .low) t
+  pub turns-all : (n i before : ℕ) (t : Found) → Turns i before t → i ≤ n → n ≤ i → Ran (Power (Goes layout c x) n) (StopsWithin (Goes layout c x) (Stops layout c x) n) (In (start .set)) (start .low) t
   turns-all n i before t m l h =
       let e : n ≡ i = omega arith in
       rw e (record {
@@ -138,11 +138,11 @@ module _ (arrays : Arrays) (c : ℕ) (x : Block) (start : Found) where
   same-then : (m n k : ℕ) → Same m n → Same n k → Same m k
   same-then m n k p q v = (λ e. q v .0 (p v .0 e), λ e. p v .1 (q v .1 e))
 
-  image-on : (n : ℕ) (w v : Status) → Image n w → Goes arrays c x w v → Image (suc n) v
-  image-on n w v p g = (p .0, p .1, power-last (Goes arrays c x) n (p .0) w v (p .2) g)
+  image-on : (n : ℕ) (w v : Status) → Image n w → Goes layout c x w v → Image (suc n) v
+  image-on n w v p g = (p .0, p .1, power-last (Goes layout c x) n (p .0) w v (p .2) g)
 
-  image-off : (n : ℕ) (v : Status) → Image (suc n) v → (w : Status) × Image n w × Goes arrays c x w v
-  image-off n v p = let q = power-split (Goes arrays c x) n (p .0) v (p .2) in (q .0, (p .0, p .1, q .1), q .2)
+  image-off : (n : ℕ) (v : Status) → Image (suc n) v → (w : Status) × Image n w × Goes layout c x w v
+  image-off n v p = let q = power-split (Goes layout c x) n (p .0) v (p .2) in (q .0, (p .0, p .1, q .1), q .2)
 
   same-next : (m n : ℕ) → Same m n → Same (suc m) (suc n)
   same-next m n h v = (
@@ -159,7 +159,7 @@ module _ (arrays : Arrays) (c : ℕ) (x : Block) (start : Found) where
   same-two j h (suc k) (suc zero) e = absurd (omega arith)
   same-two j h (suc k) (suc (suc n)) e = same-then j (suc (suc j)) (suc (suc n)) h (same-next (suc j) (suc n) (same-next j n (same-two j h k n (omega arith))))
 
-  module _ (i before : ℕ) (t next : Found) (m : Turns i before t) (o : Found-in arrays c x (In (t .set)) (t .low) next) where
+  module _ (i before : ℕ) (t next : Found) (m : Turns i before t) (o : Found-in layout c x (In (t .set)) (t .low) next) where
     next-turns : Turns (suc i) (t .set) next
     next-turns = record {
       ends = λ v. (
@@ -178,14 +178,14 @@ module _ (arrays : Arrays) (c : ℕ) (x : Block) (start : Found) where
       least = least;
     }
       where
-        least : (k : ℕ) (w : Status) (r : ℕ) → k < suc i → Image k w → Stops arrays c x w r → Below (next .low) r
+        least : (k : ℕ) (w : Status) (r : ℕ) → k < suc i → Image k w → Stops layout c x w r → Below (next .low) r
         least k w r l p s = elim (decLt k i) [
           | yes z ↦ let b = m .least k w r z p s in (omega (arith, o .lower), omega (arith, o .lower))
           | no z ↦ let e : k ≡ i = omega arith in o .least w r (m .ends w .1 (rw e at p)) s
         ]
 
   -- the set after this turn is that of one turn before it: so it is after every second turn
-  module _ (j before : ℕ) (t next : Found) (m : Turns (suc j) before t) (o : Found-in arrays c x (In (t .set)) (t .low) next) (e : next .set ≡ before) where
+  module _ (j before : ℕ) (t next : Found) (m : Turns (suc j) before t) (o : Found-in layout c x (In (t .set)) (t .low) next) (e : next .set ≡ before) where
     later : Turns (suc (suc j)) (t .set) next
     later = next-turns (suc j) before t next m o
 
@@ -215,7 +215,7 @@ module _ (arrays : Arrays) (c : ℕ) (x : Block) (start : Found) where
       least = λ k w r h p s. let q = early k in later .least (q .0) w r (q .1) (q .2 w p) s;
     }
 
-  module _ (i before : ℕ) (t next : Found) (m : Turns i before t) (o : Found-in arrays c x (In (t .set)) (t .low) next) (n : ℕ) (l : i + 1 ≤ n) (y : (n - (i + 1)) % 2 ≡ 0) where
+  module _ (i before : ℕ) (t next : Found) (m : Turns i before t) (o : Found-in layout c x (In (t .set)) (t .low) next) (n : ℕ) (l : i + 1 ≤ n) (y : (n - (i + 1)) % 2 ≡ 0) where
     -- one turn more, and an even number of those that are left where the sets repeat
     pub turns-on : ((ltb 0 i && eqb (next .set) before) ≡ false → n ≡ i + 1) → Turns n (t .set) next
     turns-on h = go (ltb 0 i && eqb (next .set) before) refl

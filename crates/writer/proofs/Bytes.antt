@@ -7,7 +7,7 @@ use native.Mathlib.Omega.{arith}
 use lib.ListN.{length, take, drop, length-drop}
 use lib.Seq.{take-suc, getD-drop, take-add, drop-drop, drop-at, length-take-le}
 use Rattle.reading.specs.declared.Fields.{Fields}
-use Rattle.reading.specs.Bytes.{byte-at, u16-at, table, array-count, length-at, arrays-of, bodies-at, fields-at}
+use Rattle.reading.specs.Bytes.{byte-at, u16-at, table, array-count, length-at, bodies-at, fields-at, lengths-of}
 use Rattle.files.specs.Files.{u16-bytes, record-bytes, joined}
 use Rattle.given.specs.Inner.Over.{bytes-of}
 use Rattle.given.proofs.Records.{joined-append, bytes-append}
@@ -40,8 +40,8 @@ module _ (f : List ℕ) (small : (i : ℕ) → byte-at f i < 256) where
   unfolding length-at table
   length-again a h = rw (u16-low (4 + 2 * a), u16-high (4 + 2 * a)) (rw add-zero at (bytes-from f (4 + 2 * a) 2 h))
 
-  pub lengths-again : 4 + 2 * array-count f ≤ length f → joined u16-bytes (arrays-of f) ≡ take (2 * array-count f) (drop 4 f)
-  unfolding arrays-of
+  pub lengths-again : 4 + 2 * array-count f ≤ length f → joined u16-bytes (lengths-of f) ≡ take (2 * array-count f) (drop 4 f)
+  unfolding lengths-of
   lengths-again h = joined-table f u16-bytes (length-at f) 2 4 (array-count f) (λ a l. length-again a (omega arith))
 
   record-again : (r : ℕ) → bodies-at f + 8 * r + 8 ≤ length f → record-bytes (fields-at f r) ≡ take 8 (drop (bodies-at f + 8 * r) f)

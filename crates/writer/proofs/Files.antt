@@ -6,9 +6,9 @@ use native.Mathlib.Omega.{arith}
 use lib.ListN.{length, take, drop, length-append, length-drop}
 use lib.Seq.{length-take-le}
 use borrow.Rule.Slice.PartMut.{midOf, putMid}
-use Rattle.model.specs.Sides.{Arrays}
+use Rattle.model.specs.Sides.{Layout}
 use Rattle.reading.specs.declared.Fields.{Fields}
-use Rattle.reading.specs.Bytes.{byte-at, array-count, arrays-of, entry-at, records-in}
+use Rattle.reading.specs.Bytes.{byte-at, array-count, layout-of, entry-at, records-in}
 use Rattle.sums.specs.Sums.{check-bytes}
 use Rattle.format.specs.Plans.{declared-plan-of}
 use Rattle.files.specs.Files.{u16-bytes, record-bytes, Body, joined, front, file}
@@ -46,29 +46,29 @@ module _ (f : List ℕ) (long : 4 + 2 * array-count f ≤ length f) where
   contents-length records = omega (arith, length-append (lengths-written f) (u16-bytes records ++ (0 ∷ 0 ∷ [])), lengths-length)
 
   module _ (old xs ys : List ℕ) where
-    pub lengths-over : (arrays : ℕ) → arrays ≡ array-count f → 4 ≤ length old → xs ≡ over (2 ∷ arrays ∷ 1 ∷ 0 ∷ []) old → ys ≡ over (take (4 + 2 * arrays - 4) (drop 4 f)) (midOf 4 (length xs - 4) xs) → putMid 4 (length xs - 4) xs ys ≡ over (lengths-written f) old
+    pub lengths-over : (layout : ℕ) → layout ≡ array-count f → 4 ≤ length old → xs ≡ over (2 ∷ layout ∷ 1 ∷ 0 ∷ []) old → ys ≡ over (take (4 + 2 * layout - 4) (drop 4 f)) (midOf 4 (length xs - 4) xs) → putMid 4 (length xs - 4) xs ys ≡ over (lengths-written f) old
     unfolding lengths-written
-    lengths-over arrays e h w v =
-        let n : 4 + 2 * arrays - 4 ≡ 2 * array-count f = omega arith in
+    lengths-over layout e h w v =
+        let n : 4 + 2 * layout - 4 ≡ 2 * array-count f = omega arith in
         over-lent _ _ old xs ys 4 w refl h v ∙ rw (n, e)
 
-    pub contents-over : (arrays records : ℕ) → arrays ≡ array-count f → 4 + 2 * arrays ≤ length old → xs ≡ over (lengths-written f) old → ys ≡ over (u16-bytes records ++ (0 ∷ 0 ∷ [])) (midOf (4 + 2 * arrays) (length xs - (4 + 2 * arrays)) xs) → putMid (4 + 2 * arrays) (length xs - (4 + 2 * arrays)) xs ys ≡ over (contents-bytes f records) old
+    pub contents-over : (layout records : ℕ) → layout ≡ array-count f → 4 + 2 * layout ≤ length old → xs ≡ over (lengths-written f) old → ys ≡ over (u16-bytes records ++ (0 ∷ 0 ∷ [])) (midOf (4 + 2 * layout) (length xs - (4 + 2 * layout)) xs) → putMid (4 + 2 * layout) (length xs - (4 + 2 * layout)) xs ys ≡ over (contents-bytes f records) old
     unfolding contents-bytes lengths-written
-    contents-over arrays records e h w v = over-lent (lengths-written f) _ old xs ys (4 + 2 * arrays) w (lengths-length ∙ rw e) h v
+    contents-over layout records e h w v = over-lent (lengths-written f) _ old xs ys (4 + 2 * layout) w (lengths-length ∙ rw e) h v
 
 -- the file of a plan of so many arrays and records
-module _ (arrays : Arrays) (l : List Fields) where
+module _ (layout : Layout) (l : List Fields) where
   abbrev body : Body
   body = record { declarations = 0; records = l }
 
   abbrev summed : List ℕ
-  summed = (((2 ∷ length arrays ∷ 1 ∷ 0 ∷ []) ++ joined u16-bytes arrays) ++ (u16-bytes (length l) ++ (0 ∷ 0 ∷ []))) ++ bytes-of l
+  summed = (((2 ∷ length (layout .lengths) ∷ 1 ∷ 0 ∷ []) ++ joined u16-bytes (layout .lengths)) ++ (u16-bytes (length l) ++ (0 ∷ 0 ∷ []))) ++ bytes-of l
 
-  plain-summed : summed ≡ front 2 arrays (body ∷ []) ++ joined (λ (b : Body). joined record-bytes (b .records)) (body ∷ [])
+  plain-summed : summed ≡ front 2 layout (body ∷ []) ++ joined (λ (b : Body). joined record-bytes (b .records)) (body ∷ [])
   unfolding bytes-of
   plain-summed = simp (append-nil, append-assoc)
 
-  plain-whole : summed ++ check-bytes summed ≡ file 2 arrays (body ∷ [])
+  plain-whole : summed ++ check-bytes summed ≡ file 2 layout (body ∷ [])
   unfolding file
   plain-whole = ap (λ (s : List ℕ). s ++ check-bytes s) plain-summed
 
@@ -88,7 +88,7 @@ module _ (f : List ℕ) (given : DeclaredFile f) where
   unfolding records-written
   records-length = omega (arith, length-append (contents-bytes f (place f (records-in f 0))) (bytes-of (pieces f (records-in f 0))), contents-length f contents-within (place f (records-in f 0)), bytes-length (pieces f (records-in f 0)), pieces-length f (records-in f 0))
 
-  written-is : ((i : ℕ) → byte-at f i < 256) → records-written f ≡ summed (arrays-of f) (pieces f (records-in f 0))
+  written-is : ((i : ℕ) → byte-at f i < 256) → records-written f ≡ summed (layout-of f) (pieces f (records-in f 0))
   unfolding records-written contents-bytes
   written-is small = rw (arrays-counted f, lengths-again f small contents-within, pieces-length f (records-in f 0))
 
@@ -96,8 +96,8 @@ module _ (f : List ℕ) (given : DeclaredFile f) where
   unfolding declared-plan-of
   file-is small =
       ap (λ (s : List ℕ). s ++ check-bytes s) (written-is small)
-      ∙ plain-whole (arrays-of f) (pieces f (records-in f 0))
-      ∙ ap (λ (l : List Fields). file 2 (arrays-of f) (record { declarations = 0; records = l } ∷ [])) (sym (expansion-fields f given))
+      ∙ plain-whole (layout-of f) (pieces f (records-in f 0))
+      ∙ ap (λ (l : List Fields). file 2 (layout-of f) (record { declarations = 0; records = l } ∷ [])) (sym (expansion-fields f given))
 
   -- what the writers of the records and of the check bytes leave
   module _ (old xs ys : List ℕ) where

@@ -6,7 +6,7 @@ use mathlib.Core.List.{List, _∷_}
 use mathlib.Core.Option.{none, some}
 use lib.Dec.{eqb}
 use lib.ListN.{length, getD}
-use Rattle.model.specs.Sides.{Side, host, card, other, Arrays, cells, length-of, first-of, Cells}
+use Rattle.model.specs.Sides.{Side, host, card, other, Layout, cell-count, span-of, Cells}
 use Rattle.model.specs.Effects.{Action, read, write, copy, need, mark, State, effect}
 use Rattle.model.specs.Runs.{Event, lowest-unmet, tally}
 use Rattle.model.proofs.Runs.{event}
@@ -33,48 +33,48 @@ pub record Low (s : Stored) : Type 0 where
   pub moved : s .moved < 17592186044416
 
 -- the cells of a range are those from `from` up to `to`
-pub record CellsAt (arrays : Arrays) (x : Cells) (from to : ℕ) : Type 0 where
-  pub one : x .array < length arrays
-  pub begins : from ≡ first-of arrays (x .array) + x .p
-  pub ends : to ≡ first-of arrays (x .array) + x .q
-  pub fits : x .q ≤ length-of arrays (x .array)
+pub record CellsAt (layout : Layout) (x : Cells) (from to : ℕ) : Type 0 where
+  pub one : x .array < length (layout .lengths)
+  pub begins : from ≡ span-of layout (x .array) .first + x .p
+  pub ends : to ≡ span-of layout (x .array) .first + x .q
+  pub fits : x .q ≤ span-of layout (x .array) .length
 
 -- those of an array
-pub record ArrayAt (arrays : Arrays) (a from to : ℕ) : Type 0 where
-  pub one : a < length arrays
-  pub begins : from ≡ first-of arrays a
-  pub ends : to ≡ first-of arrays a + length-of arrays a
+pub record ArrayAt (layout : Layout) (a from to : ℕ) : Type 0 where
+  pub one : a < length (layout .lengths)
+  pub begins : from ≡ span-of layout a .first
+  pub ends : to ≡ span-of layout a .first + span-of layout a .length
 
 -- where those of a range of array a are the whole of it, they are those of the array
-pub record CellsOf (arrays : Arrays) (x : Cells) (a : ℕ) (whole : Bool) (from to : ℕ) : Type 0 where
-  pub range : CellsAt arrays x from to
+pub record CellsOf (layout : Layout) (x : Cells) (a : ℕ) (whole : Bool) (from to : ℕ) : Type 0 where
+  pub range : CellsAt layout x from to
   pub array : x .array ≡ a
-  pub all : whole ≡ true → ArrayAt arrays a from to
+  pub all : whole ≡ true → ArrayAt layout a from to
 
 -- the cells of a record are those from `from` up to `to`
-abbrev pub Spans : Arrays → Action → ℕ → ℕ → Type 0
-Spans arrays (read s x) from to = CellsAt arrays x from to
-Spans arrays (write s x) from to = CellsAt arrays x from to
-Spans arrays (copy s x) from to = CellsAt arrays x from to
-Spans arrays (need s a) from to = ArrayAt arrays a from to
-Spans arrays (mark s a) from to = ArrayAt arrays a from to
+abbrev pub Spans : Layout → Action → ℕ → ℕ → Type 0
+Spans layout (read s x) from to = CellsAt layout x from to
+Spans layout (write s x) from to = CellsAt layout x from to
+Spans layout (copy s x) from to = CellsAt layout x from to
+Spans layout (need s a) from to = ArrayAt layout a from to
+Spans layout (mark s a) from to = ArrayAt layout a from to
 
 -- the memories, flags and tally, seen from side t, hold the state σ after the history l
-pub record Holds (arrays : Arrays) (t : Side) (s : Stored) (own others latest : List ℕ) (σ : State) (l : List Event) : Type 0 where
-  pub own-room : cells arrays ≤ length own
-  pub others-room : cells arrays ≤ length others
-  pub latest-room : cells arrays ≤ length latest
-  pub own-held : (c : ℕ) → c < cells arrays → getD own c 0 ≡ number-of (σ .held t c)
-  pub others-held : (c : ℕ) → c < cells arrays → getD others c 0 ≡ number-of (σ .held (other t) c)
-  pub latest-held : (c : ℕ) → c < cells arrays → getD latest c 0 ≡ σ .latest c
-  pub own-flags : s .flags ≡ mask (length arrays) (σ .flag t)
-  pub others-flags : s .«other_flags» ≡ mask (length arrays) (σ .flag (other t))
-  pub reads : s .reads ≡ tally arrays l .reads
-  pub writes : s .writes ≡ tally arrays l .writes
-  pub moved : s .moved ≡ tally arrays l .moved
+pub record Holds (layout : Layout) (t : Side) (s : Stored) (own others latest : List ℕ) (σ : State) (l : List Event) : Type 0 where
+  pub own-room : cell-count layout ≤ length own
+  pub others-room : cell-count layout ≤ length others
+  pub latest-room : cell-count layout ≤ length latest
+  pub own-held : (c : ℕ) → c < cell-count layout → getD own c 0 ≡ number-of (σ .held t c)
+  pub others-held : (c : ℕ) → c < cell-count layout → getD others c 0 ≡ number-of (σ .held (other t) c)
+  pub latest-held : (c : ℕ) → c < cell-count layout → getD latest c 0 ≡ σ .latest c
+  pub own-flags : s .flags ≡ mask (length (layout .lengths)) (σ .flag t)
+  pub others-flags : s .«other_flags» ≡ mask (length (layout .lengths)) (σ .flag (other t))
+  pub reads : s .reads ≡ tally layout l .reads
+  pub writes : s .writes ≡ tally layout l .writes
+  pub moved : s .moved ≡ tally layout l .moved
   pub counted : s .writes ≡ σ .writes
   pub past : Past σ
-  pub knows : Knows arrays (s .known) own others latest
+  pub knows : Knows layout (s .known) own others latest
 
 -- r is s with the flag of array a set on both sides
 pub record BothSet (s : Stored) (a : ℕ) (r : Stored) : Type 0 where
@@ -93,22 +93,22 @@ BothSetAs (Unmet c) a (Done s) = ⊥
 BothSetAs (Unmet c) a (Unmet c′) = c′ ≡ c
 
 -- what a record with the action y did, seen from side t: it acted, or it is unmet and nothing has changed
-abbrev pub FollowsAs : Arrays → Action → Side → State → List Event → List ℕ → List ℕ → List ℕ → Acted → List ℕ → List ℕ → Type 0
-FollowsAs arrays y t σ l own others latest (Done s) own′ latest′ = (lowest-unmet arrays y σ ≡ none) × Holds arrays t s own′ others latest′ (effect arrays y σ) (event y σ ∷ l)
-FollowsAs arrays y t σ l own others latest (Unmet c) own′ latest′ = (lowest-unmet arrays y σ ≡ some (c .0)) × (own′ ≡ own) × (latest′ ≡ latest)
+abbrev pub FollowsAs : Layout → Action → Side → State → List Event → List ℕ → List ℕ → List ℕ → Acted → List ℕ → List ℕ → Type 0
+FollowsAs layout y t σ l own others latest (Done s) own′ latest′ = (lowest-unmet layout y σ ≡ none) × Holds layout t s own′ others latest′ (effect layout y σ) (event y σ ∷ l)
+FollowsAs layout y t σ l own others latest (Unmet c) own′ latest′ = (lowest-unmet layout y σ ≡ some (c .0)) × (own′ ≡ own) × (latest′ ≡ latest)
 
 -- whatever state the memories, flags and tally held
-abbrev pub Follows : Arrays → Action → Side → Stored → List ℕ → List ℕ → List ℕ → Acted → List ℕ → List ℕ → Type 0
-Follows arrays y t s own others latest r own′ latest′ = (σ : State) (l : List Event) → Holds arrays t s own others latest σ l → FollowsAs arrays y t σ l own others latest r own′ latest′
+abbrev pub Follows : Layout → Action → Side → Stored → List ℕ → List ℕ → List ℕ → Acted → List ℕ → List ℕ → Type 0
+Follows layout y t s own others latest r own′ latest′ = (σ : State) (l : List Event) → Holds layout t s own others latest σ l → FollowsAs layout y t σ l own others latest r own′ latest′
 
 -- the same of both sides' memories, seen from the host
-abbrev pub ActsAs : Arrays → Action → State → List Event → List ℕ → List ℕ → List ℕ → Acted → List ℕ → List ℕ → List ℕ → Type 0
-ActsAs arrays y σ l own others latest (Done s) own′ others′ latest′ = (lowest-unmet arrays y σ ≡ none) × Holds arrays host s own′ others′ latest′ (effect arrays y σ) (event y σ ∷ l)
-ActsAs arrays y σ l own others latest (Unmet c) own′ others′ latest′ = (lowest-unmet arrays y σ ≡ some (c .0)) × (own′ ≡ own) × (others′ ≡ others) × (latest′ ≡ latest)
+abbrev pub ActsAs : Layout → Action → State → List Event → List ℕ → List ℕ → List ℕ → Acted → List ℕ → List ℕ → List ℕ → Type 0
+ActsAs layout y σ l own others latest (Done s) own′ others′ latest′ = (lowest-unmet layout y σ ≡ none) × Holds layout host s own′ others′ latest′ (effect layout y σ) (event y σ ∷ l)
+ActsAs layout y σ l own others latest (Unmet c) own′ others′ latest′ = (lowest-unmet layout y σ ≡ some (c .0)) × (own′ ≡ own) × (others′ ≡ others) × (latest′ ≡ latest)
 
 -- whatever state the memories, flags and tally held
-abbrev pub Acts : Arrays → Action → Stored → List ℕ → List ℕ → List ℕ → Acted → List ℕ → List ℕ → List ℕ → Type 0
-Acts arrays y s own others latest r own′ others′ latest′ = (σ : State) (l : List Event) → Holds arrays host s own others latest σ l → ActsAs arrays y σ l own others latest r own′ others′ latest′
+abbrev pub Acts : Layout → Action → Stored → List ℕ → List ℕ → List ℕ → Acted → List ℕ → List ℕ → List ℕ → Type 0
+Acts layout y s own others latest r own′ others′ latest′ = (σ : State) (l : List Event) → Holds layout host s own others latest σ l → ActsAs layout y σ l own others latest r own′ others′ latest′
 
 -- the side that is meant
 abbrev pub side-on : Bool → Side

@@ -3,10 +3,10 @@ use Prim.Native.Nat.{_+_, _-_, _≤_}
 use mathlib.Core.Path.{_≡_, refl, sym, _∙_}
 use lib.ListN.{length}
 use native.Mathlib.Omega.{arith}
-use Rattle.model.specs.Sides.{first-of}
+use Rattle.model.specs.Sides.{span-of}
 use Rattle.model.proofs.Through.{StopsAt}
 use Rattle.model.proofs.Check.{Fits, fits-none, exact}
-use Rattle.reading.specs.Bytes.{array-count, arrays-of}
+use Rattle.reading.specs.Bytes.{array-count, layout-of}
 use Rattle.format.specs.Plans.{plan-of}
 use Rattle.reading.proofs.Tables.{first-zero, all-cells}
 use Rattle.format.proofs.Walking.{opened-facts}
@@ -19,7 +19,7 @@ use Rattle.cells.proofs.answer_with.Tie as tie
 abbrev Inv-loop : tie.InvT-loop
 Inv-loop plan bodies records arrays starts rows₀ ahead₀ m v₀ first₀ a₀ rows ahead v first a =
     (a ≤ arrays)
-    × (first ≡ first-of (arrays-of plan) a)
+    × (first ≡ span-of (layout-of plan) a .first)
     × Fits first (StopsAt (plan-of plan)) v
     × Room plan first rows
     × (length rows ≡ length rows₀)

@@ -5,8 +5,8 @@ use mathlib.Core.Logic.{⊎-elim}
 use native.Mathlib.Omega.{arith}
 use lib.ListN.{getD}
 use borrow.Author.Tests.{le-leb}
-use Rattle.model.specs.Sides.{first-of}
-use Rattle.reading.specs.Bytes.{arrays-of}
+use Rattle.model.specs.Sides.{span-of}
+use Rattle.reading.specs.Bytes.{layout-of}
 use Rattle.classes.specs.Inner.Marks.{Marked}
 use Rattle.format.proofs.Acts.{record-inside}
 use Rattle.classes.proofs.Marking.{Edges, edges, marked-none, marked-skip, marked-more}
@@ -27,16 +27,16 @@ edge c =
     edges _ _ (a .pre .0) (c .before .before .before .before .loop .r) (omega (arith, a .pre .1)) _ (c .before .before .record-at .ensures) (omega (arith, c .if1 .taken))
 
 -- whose array begins there
-first : (c : tie.Then1 Inv-loop μ-loop) → getD (c .before .before .before .before .before .before .args .starts .now) (c .before .before .record-at .result .array) 0 ≡ first-of (arrays-of (c .before .before .before .before .before .before .args .plan .now)) (c .before .before .record-at .result .array)
+first : (c : tie.Then1 Inv-loop μ-loop) → getD (c .before .before .before .before .before .before .args .starts .now) (c .before .before .record-at .result .array) 0 ≡ span-of (layout-of (c .before .before .before .before .before .before .args .plan .now)) (c .before .before .record-at .result .array) .first
 first c = c .before .before .before .before .before .before .pre .2 .first _ (omega (arith, edge c .array))
 
 -- its first cell, and the one after its last
-from : (c : tie.After-cells-of Inv-loop μ-loop) → c .cells-of .result .from ≡ first-of (arrays-of (c .before .before .before .before .before .before .before .args .plan .now)) (c .before .before .before .record-at .result .array) + c .before .before .before .record-at .result .p
+from : (c : tie.After-cells-of Inv-loop μ-loop) → c .cells-of .result .from ≡ span-of (layout-of (c .before .before .before .before .before .before .before .args .plan .now)) (c .before .before .before .record-at .result .array) .first + c .before .before .before .record-at .result .p
 from c =
     let k = le-leb (c .before .before .before .record-at .result .kind) 3 (omega (arith, c .before .if1 .taken)) in
     (rw k at (c .cells-of .ensures .0)) ∙ ap (λ z. z + c .before .before .before .record-at .result .p) (first (c .before))
 
-to : (c : tie.After-cells-of Inv-loop μ-loop) → c .cells-of .result .to ≡ first-of (arrays-of (c .before .before .before .before .before .before .before .args .plan .now)) (c .before .before .before .record-at .result .array) + c .before .before .before .record-at .result .q
+to : (c : tie.After-cells-of Inv-loop μ-loop) → c .cells-of .result .to ≡ span-of (layout-of (c .before .before .before .before .before .before .before .args .plan .now)) (c .before .before .before .record-at .result .array) .first + c .before .before .before .record-at .result .q
 to c =
     let k = le-leb (c .before .before .before .record-at .result .kind) 3 (omega (arith, c .before .if1 .taken)) in
     (rw k at (c .cells-of .ensures .1)) ∙ ap (λ z. z + c .before .before .before .record-at .result .q) (first (c .before))

@@ -3,12 +3,12 @@ use Prim.Native.Nat.{ℕ, suc, _<_}
 use mathlib.Core.Path.{_≡_}
 use mathlib.Core.List.{List}
 use lib.ListN.{length, getD}
-use Rattle.model.specs.Sides.{length-of}
-use Rattle.reading.specs.Bytes.{arrays-of, fields-at}
+use Rattle.model.specs.Sides.{span-of}
+use Rattle.reading.specs.Bytes.{layout-of, fields-at}
 use Rattle.lookahead.specs.Inner.Ahead.{cell-at, covers}
 
 -- 4097 marks, and a cell without one is not told apart from the cell before it in its array: each record before r covers both or neither
 pub record Marked (f : List ℕ) (r : ℕ) (marks : List ℕ) : Type 0 where
   pub size : length marks ≡ 4097
-  pub alike : (array offset : ℕ) → suc offset < length-of (arrays-of f) array → (getD marks (cell-at f array (suc offset)) 0 ≡ 1 → ⊥) →
+  pub alike : (array offset : ℕ) → suc offset < span-of (layout-of f) array .length → (getD marks (cell-at f array (suc offset)) 0 ≡ 1 → ⊥) →
       (k : ℕ) → k < r → covers (fields-at f k) array (suc offset) ≡ covers (fields-at f k) array offset

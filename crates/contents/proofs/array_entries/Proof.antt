@@ -7,10 +7,11 @@ use Prim.Native.Nat.{_-_, _≤_}
 use native.Mathlib.Omega.{arith}
 use lib.Dec.{leb}
 use lib.ListN.{length}
+use Rattle.model.specs.Lists.{sum-before}
 use Rattle.model.specs.declared.Verdict.the-variants.{Accepted}
-use Rattle.model.specs.Sides.{first-of}
+use Rattle.model.specs.Sides.{span-of}
 use Rattle.model.specs.Rows.{first, each}
-use Rattle.reading.specs.Bytes.{array-count, table, length-at, arrays-of, entry-at}
+use Rattle.reading.specs.Bytes.{array-count, table, length-at, layout-of, entry-at, lengths-of}
 use Rattle.contents.specs.Contents.{array-rows}
 use Rattle.model.proofs.Rows.{each-none, each-more}
 use Rattle.reading.proofs.Tables.{filled-first, filled-next, first-zero, all-cells}
@@ -22,11 +23,11 @@ use Rattle.contents.proofs.array_entries.Tie as tie
 abbrev Inv-loop : tie.InvT-loop
 Inv-loop plan arrays starts₀ cells₀ a₀ starts cells a =
     (a ≤ arrays)
-    × (cells ≡ first-of (arrays-of plan) a)
+    × (cells ≡ span-of (layout-of plan) a .first)
     × (cells ≤ 4096)
     × (Accepted ≡ first (each a (array-rows plan)))
     × (length starts ≡ 33)
-    × (starts ≡ table (λ k. cond (leb k a) (first-of (arrays-of plan) k) 0) 33)
+    × (starts ≡ table (λ k. cond (leb k a) (span-of (layout-of plan) k .first) 0) 33)
 
 abbrev μ-loop : tie.MeasureT-loop
 μ-loop plan arrays starts₀ cells₀ a₀ starts cells a = arrays - a
@@ -55,8 +56,8 @@ cast-arrays c = search needs
 loop-holds : tie.Need-loop-holds Inv-loop μ-loop
 unfolding table
 loop-holds c =
-    let l = arrays-of (c .before .before .args .plan .now) in
-    (search needs, sym (first-zero l), search needs, each-none _, search needs, filled-first (first-of l) (first-zero l))
+    let l = lengths-of (c .before .before .args .plan .now) in
+    (search needs, sym (first-zero l), search needs, each-none _, search needs, filled-first (sum-before l) (first-zero l))
 
 mul-number-at : tie.Need-mul-number-at Inv-loop μ-loop
 mul-number-at c = search needs
@@ -92,7 +93,7 @@ loop-again c =
     let e = entry (c .before) in
     let p = array-pass _ _ _ _ e (c .if1 .left) in
     let m = cells-more _ _ _ _ e in
-    (omega arith, m, p .1, each-more _ _ (l .inv .3) (p .0), search needs, rw (l .inv .5) (filled-next (first-of (arrays-of (c .before .before .before .before .before .before .args .plan .now))) 33 (l .a) _ (omega arith) m))
+    (omega arith, m, p .1, each-more _ _ (l .inv .3) (p .0), search needs, rw (l .inv .5) (filled-next (sum-before (lengths-of (c .before .before .before .before .before .before .args .plan .now))) 33 (l .a) _ (omega arith) m))
 
 entries-verdict-requires : tie.Need-entries-verdict-requires Inv-loop μ-loop
 entries-verdict-requires c κs = omega arith

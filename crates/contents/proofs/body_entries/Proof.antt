@@ -8,8 +8,8 @@ use native.Mathlib.Omega.{arith}
 use lib.Dec.{ltb, leb}
 use lib.ListN.{length}
 use borrow.Author.Tests.{not-false}
+use Rattle.model.specs.Lists.{sum-before}
 use Rattle.model.specs.declared.Verdict.the-variants.{Accepted}
-use Rattle.model.specs.Sides.{first-of}
 use Rattle.model.specs.Rows.{first, each}
 use Rattle.reading.specs.Bytes.{body-count, table, declarations-in, sizes-of, first-record}
 use Rattle.contents.specs.Contents.{body-rows}
@@ -62,7 +62,7 @@ loop-holds : tie.Need-loop-holds Inv-loop μ-loop
 unfolding table
 loop-holds c =
     let l = sizes-of (c .before .before .args .plan .now) in
-    (search needs, sym (first-zero l), search needs, each-none _, search needs, search needs, filled-first (first-of l) (first-zero l), refl)
+    (search needs, sym (first-zero l), search needs, each-none _, search needs, search needs, filled-first (sum-before l) (first-zero l), refl)
 
 body-entry-requires : tie.Need-body-entry-requires Inv-loop μ-loop
 body-entry-requires c κs =

@@ -1,5 +1,5 @@
 -- A file whose bodies are within the bounds passes the rows of header, contents and tail; it opens if the rows of its records pass too.
-use mathlib.Core.Path.{_≡_, refl}
+use mathlib.Core.Path.{_≡_, refl, ap}
 use mathlib.Core.Bool.{Bool, true, false, not, _&&_, _||_}
 use mathlib.Core.List.{List, [], _∷_, _++_}
 use Prim.Native.Nat.{ℕ, zero, suc, _≤_, _<_}
@@ -8,11 +8,13 @@ use native.Mathlib.Nat.{zero-add}
 use lib.ListN.{length}
 use lib.Dec.{ltb, leb, eqb}
 use borrow.Author.Tests.{le-ltb, leb-true, eq-eqb}
+use Rattle.model.specs.Lists.{sum}
 use Rattle.model.specs.declared.Verdict.the-variants.{Accepted}
-use Rattle.model.specs.Sides.{Arrays, cells, first-of}
+use Rattle.model.specs.Sides.{span-of, Layout, cell-count}
 use Rattle.model.proofs.Booleans.{and-out}
 use Rattle.model.specs.Rows.{Row, row, first, each}
-use Rattle.reading.specs.Bytes.{array-count, length-at, first-record, bodies-at, between}
+use Rattle.reading.specs.Bytes.{array-count, length-at, first-record, bodies-at, between, lengths-of}
+use Rattle.reading.proofs.Tables.{sums-within}
 use Rattle.frame.specs.Frame.{header-fits, header-rows, tail-rows}
 use Rattle.contents.specs.Contents.{array-rows, body-rows, contents-rows, front-rows}
 use Rattle.records.specs.Records.{records-rows}
@@ -20,7 +22,7 @@ use Rattle.format.specs.Opening.{open-rows, opening}
 use Rattle.files.specs.Files.{Body}
 use Rattle.files.specs.Bounds.{all, arrays-fit}
 use Rattle.files.proofs.Files.Holding.{Along, none, more, at-place, each-so, both-along}
-use Rattle.files.proofs.Files.Places.{body-size, sizes, Placed, Laid, first-of-within}
+use Rattle.files.proofs.Files.Places.{body-size, sizes, Placed, Laid}
 
 -- no row of the list holds
 abbrev pub Passes : List Row → Type 0
@@ -63,22 +65,23 @@ pub record EntryFits (b : ℕ) (x : Body) : Type 0 where
   pub none-first : (eqb b 0 && not (eqb (x .declarations) 0)) ≡ false
 
 -- the rows of each place, in the order of the table
-module _ (f : List ℕ) (kind : ℕ) (arrays : Arrays) (bodies : List Body) (l : Laid f kind arrays bodies) where
-  header-passes : between 1 2 kind ≡ true → between 1 32 (length arrays) ≡ true → between 1 32 (length bodies) ≡ true
+module _ (f : List ℕ) (kind : ℕ) (layout : Layout) (bodies : List Body) (l : Laid f kind layout bodies) where
+  header-passes : between 1 2 kind ≡ true → between 1 32 (length (layout .lengths)) ≡ true → between 1 32 (length bodies) ≡ true
       → (eqb kind 1 || eqb (length bodies) 1) ≡ true → Passes (header-rows f)
   unfolding header-rows header-fits
   header-passes kinds some-arrays some-bodies one =
       passes-row _ _ _ _ (le-ltb (length f) 4 (omega (arith, l .long, l .bodies-start)))
       (passes-row _ _ _ _ (rw (l .kind-is, l .arrayed .counted, l .body-count-is, l .zero-is, kinds, some-arrays, some-bodies, one)) passes-none)
 
-  array-passes : leb (cells arrays) 4096 ≡ true → (a n : ℕ) → length-at f a ≡ n → between 1 4096 n ≡ true → Passes (array-rows f a)
+  array-passes : leb (cell-count layout) 4096 ≡ true → (a n : ℕ) → length-at f a ≡ n → between 1 4096 n ≡ true → Passes (array-rows f a)
   unfolding array-rows
   array-passes total a n e fits =
-      let few : cells arrays ≤ 4096 = leb-true _ _ total in
-      let so-far : ltb 4096 (first-of arrays (suc a)) ≡ false = le-ltb 4096 (first-of arrays (suc a)) (omega (arith, first-of-within arrays (suc a))) in
-      passes-row _ _ _ _ (rw (e, l .arrays-are, fits, so-far)) passes-none
+      let few : cell-count layout ≤ 4096 = leb-true _ _ total in
+      let so-far : ltb 4096 (span-of layout (suc a) .first) ≡ false = le-ltb 4096 (span-of layout (suc a) .first) (omega (arith, sums-within (layout .lengths) (suc a))) in
+      let lengths-are : lengths-of f ≡ layout .lengths = ap (λ (y : Layout). y .lengths) (l .arrays-are) in
+      passes-row _ _ _ _ (rw (e, lengths-are, fits, so-far)) passes-none
 
-  body-passes : cells (sizes bodies) ≤ 1024 → (b : ℕ) (x : Body) → Placed f b x → EntryFits b x → Passes (body-rows f b)
+  body-passes : sum (sizes bodies) ≤ 1024 → (b : ℕ) (x : Body) → Placed f b x → EntryFits b x → Passes (body-rows f b)
   unfolding body-rows
   body-passes few b x p fits =
       let e = p .entry in
@@ -86,27 +89,27 @@ module _ (f : List ℕ) (kind : ℕ) (arrays : Arrays) (bodies : List Body) (l :
       let some : ltb (body-size x) (x .declarations) ≡ false = le-ltb _ _ (fits .declared) in
       passes-row _ _ _ _ (rw (so-far, e .last-is, e .records-are, e .declarations-are, some, fits .none-first)) passes-none
 
-  contents-passes : arrays-fit arrays ≡ true → cells (sizes bodies) ≤ 1024 → Along EntryFits 0 bodies → Passes (contents-rows f)
+  contents-passes : arrays-fit layout ≡ true → sum (sizes bodies) ≤ 1024 → Along EntryFits 0 bodies → Passes (contents-rows f)
   unfolding contents-rows
   contents-passes fit few entries =
-      let h = and-out (between 1 32 (length arrays)) (all (between 1 4096) arrays && leb (cells arrays) 4096) fit in
-      let k = and-out (all (between 1 4096) arrays) (leb (cells arrays) 4096) (h .1) in
-      let lengths = both-along (l .arrayed .held) (all-along (between 1 4096) arrays 0 (k .0)) in
+      let h = and-out (between 1 32 (length (layout .lengths))) (all (between 1 4096) (layout .lengths) && leb (cell-count layout) 4096) fit in
+      let k = and-out (all (between 1 4096) (layout .lengths)) (leb (cell-count layout) 4096) (h .1) in
+      let lengths = both-along (l .arrayed .held) (all-along (between 1 4096) (layout .lengths) 0 (k .0)) in
       let bodies-fit = both-along (l .placed) entries in
       passes-row _ _ _ _ (le-ltb (length f) (bodies-at f) (omega (arith, l .long)))
       (passes-append (each (array-count f) (array-rows f)) _
-      (rw (l .arrayed .counted) (passes-along arrays (array-rows f) (each-so (λ a n p. array-passes (k .1) a n (p .0) (p .1)) lengths)))
+      (rw (l .arrayed .counted) (passes-along (layout .lengths) (array-rows f) (each-so (λ a n p. array-passes (k .1) a n (p .0) (p .1)) lengths)))
       (rw (l .body-count-is) (passes-along bodies (body-rows f) (each-so (λ b x p. body-passes few b x (p .0) (p .1)) bodies-fit))))
 
   tail-passes : Passes (tail-rows f)
   unfolding tail-rows
   tail-passes = passes-row _ _ _ _ (rw (eq-eqb _ _ (l .long))) (passes-row _ _ _ _ (rw (l .checked)) passes-none)
 
-  pub opens : between 1 2 kind ≡ true → arrays-fit arrays ≡ true → between 1 32 (length bodies) ≡ true → (eqb kind 1 || eqb (length bodies) 1) ≡ true
-      → cells (sizes bodies) ≤ 1024 → Along EntryFits 0 bodies → Along (λ b x. Passes (records-rows f b)) 0 bodies → opening f ≡ Accepted
+  pub opens : between 1 2 kind ≡ true → arrays-fit layout ≡ true → between 1 32 (length bodies) ≡ true → (eqb kind 1 || eqb (length bodies) 1) ≡ true
+      → sum (sizes bodies) ≤ 1024 → Along EntryFits 0 bodies → Along (λ b x. Passes (records-rows f b)) 0 bodies → opening f ≡ Accepted
   unfolding opening open-rows front-rows
   opens kinds fit some-bodies one few entries records =
-      let h = and-out (between 1 32 (length arrays)) (all (between 1 4096) arrays && leb (cells arrays) 4096) fit in
+      let h = and-out (between 1 32 (length (layout .lengths))) (all (between 1 4096) (layout .lengths) && leb (cell-count layout) 4096) fit in
       passes-append (front-rows f) _
       (passes-append (header-rows f) _ (header-passes kinds (h .0) some-bodies one)
       (passes-append (contents-rows f) _ (contents-passes fit few entries) tail-passes))

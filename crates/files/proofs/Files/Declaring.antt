@@ -8,7 +8,8 @@ use native.Mathlib.Nat.{add-zero}
 use lib.ListN.{length, length-append, length-map}
 use lib.Dec.{ltb, leb, eqb}
 use borrow.Author.Tests.{lt-ltb, le-ltb, ne-eqb}
-use Rattle.model.specs.Sides.{Side, Arrays, cells}
+use Rattle.model.specs.Lists.{sum}
+use Rattle.model.specs.Sides.{Side, Layout}
 use Rattle.model.specs.Blocks.{size, numbered}
 use Rattle.model.specs.Judging.{Mode, R, W, RW, Declaration, Pass}
 use Rattle.model.proofs.Booleans.{and-out}
@@ -86,19 +87,19 @@ module _ (f : List ℕ) (b : ℕ) (p : Pass) (placed : Placed f b (pass-body p))
   records-are : records-in f b ≡ pass-size p
   records-are = placed .entry .records-are ∙ pass-count p
 
-  pass-walks : (arrays : Arrays) → kind-of f ≡ 1 → eqb b 0 ≡ false → Arrayed f arrays
-      → pass-fits arrays p ≡ true → Passes (records-rows f b)
+  pass-walks : (layout : Layout) → kind-of f ≡ 1 → eqb b 0 ≡ false → Arrayed f layout
+      → pass-fits layout p ≡ true → Passes (records-rows f b)
   unfolding records-rows allowed deepest
-  pass-walks arrays kind-is later arrayed fits =
-      let fit = and-out (leb declared 255) (all (λ (d : Declaration). ltb (d .array) (length arrays)) (p .declarations) && block-fits arrays 8 (p .body)) fits .1 in
-      let fit′ = and-out (all (λ (d : Declaration). ltb (d .array) (length arrays)) (p .declarations)) (block-fits arrays 8 (p .body)) fit in
+  pass-walks layout kind-is later arrayed fits =
+      let fit = and-out (leb declared 255) (all (λ (d : Declaration). ltb (d .array) (length (layout .lengths))) (p .declarations) && block-fits layout 8 (p .body)) fits .1 in
+      let fit′ = and-out (all (λ (d : Declaration). ltb (d .array) (length (layout .lengths))) (p .declarations)) (block-fits layout 8 (p .body)) fit in
       let declarations-are : declarations-in f b ≡ declared = placed .entry .declarations-are in
       let end : first-record f (suc b) ≡ r + declared + size (p .body) = omega (arith, placed .next, pass-count p) in
       let deep : deepest f ≡ 7 = rw kind-is in
       rw end
       (declarations-walk f b (r + declared + size (p .body)) (p .declarations) r (rw (arrayed .counted) (fit′ .0))
       (λ s x k e. rw (kind-is, later, declarations-are, lt-ltb s (r + declared) k, e)) (omega arith) declarations-held
-      (block-walks f b (r + declared) arrays arrayed (λ s x k e. rw (kind-is, later, declarations-are, le-ltb s (r + declared) k, e))
+      (block-walks f b (r + declared) layout arrayed (λ s x k e. rw (kind-is, later, declarations-are, le-ltb s (r + declared) k, e))
       (p .body) 8 0 (r + declared) (fit′ .1) (omega arith) (omega arith) block-held) (records-in f b))
 
   declarations-read : table (λ i. declaration-of (fields-at f (r + i))) declared ≡ p .declarations
@@ -115,7 +116,7 @@ module _ (f : List ℕ) (b : ℕ) (p : Pass) (placed : Placed f b (pass-body p))
       rw (declarations-are, records-are, end, declarations-read, block-reads (fields-at f) (p .body) (pass-size p) (r + declared) (omega arith) block-held)
 
 -- all passes, from body b on
-pub passes-count : (ps : List Pass) → cells (sizes (map pass-body ps)) ≡ passes-size ps
+pub passes-count : (ps : List Pass) → sum (sizes (map pass-body ps)) ≡ passes-size ps
 passes-count [] = refl
 passes-count (p ∷ ps) = omega (arith, pass-count p, passes-count ps)
 
@@ -126,13 +127,13 @@ passes-entries (p ∷ ps) b later =
     more fits (passes-entries ps (suc b) (ne-eqb (suc b) 0 (λ e. omega arith)))
 
 module _ (f : List ℕ) where
-  pub passes-walk : (arrays : Arrays) → kind-of f ≡ 1 → Arrayed f arrays
-      → (ps : List Pass) (b : ℕ) → eqb b 0 ≡ false → all (pass-fits arrays) ps ≡ true → Along (Placed f) b (map pass-body ps) → Along (λ c x. Passes (records-rows f c)) b (map pass-body ps)
-  passes-walk arrays kind-is arrayed [] b later fits h = none
-  passes-walk arrays kind-is arrayed (p ∷ ps) b later fits (more q h) =
-      let fit = and-out (pass-fits arrays p) (all (pass-fits arrays) ps) fits in
-      more (pass-walks f b p q arrays kind-is later arrayed (fit .0))
-      (passes-walk arrays kind-is arrayed ps (suc b) (ne-eqb (suc b) 0 (λ e. omega arith)) (fit .1) h)
+  pub passes-walk : (layout : Layout) → kind-of f ≡ 1 → Arrayed f layout
+      → (ps : List Pass) (b : ℕ) → eqb b 0 ≡ false → all (pass-fits layout) ps ≡ true → Along (Placed f) b (map pass-body ps) → Along (λ c x. Passes (records-rows f c)) b (map pass-body ps)
+  passes-walk layout kind-is arrayed [] b later fits h = none
+  passes-walk layout kind-is arrayed (p ∷ ps) b later fits (more q h) =
+      let fit = and-out (pass-fits layout p) (all (pass-fits layout) ps) fits in
+      more (pass-walks f b p q layout kind-is later arrayed (fit .0))
+      (passes-walk layout kind-is arrayed ps (suc b) (ne-eqb (suc b) 0 (λ e. omega arith)) (fit .1) h)
 
   pub passes-read : (ps : List Pass) (b r : ℕ) → first-record f b ≡ r → Along (Placed f) b (map pass-body ps) → Holds (pass-at f) b (numbered-passes r ps)
   passes-read [] b r e h = none

@@ -1,5 +1,5 @@
 -- Where the parts of a plan's file stand: the readers of `Bytes` give back what `Files` wrote.
-use mathlib.Core.Path.{_≡_, refl}
+use mathlib.Core.Path.{_≡_, refl, sym}
 use mathlib.Core.Bool.{true}
 use mathlib.Core.List.{List, [], _∷_, _++_, map}
 use Prim.Native.Nat.{ℕ, zero, suc, _+_, _*_, _-_, _/_, _%_, _≤_, _<_}
@@ -9,10 +9,12 @@ use native.Mathlib.Nat.{add-zero, zero-add, add-assoc}
 use lib.ListN.{length, getD, length-append, length-map, List·getD-map}
 use lib.Seq.{take-at, getD-append-seam, getD-append-add}
 use borrow.Author.Tests.{eq-eqb}
-use Rattle.model.specs.Sides.{Arrays, cells, length-of, first-of}
+use Rattle.model.specs.Lists.{sum-before, sum}
+use Rattle.model.specs.Sides.{span-of, Layout}
 use Rattle.model.proofs.Booleans.{and-in}
 use Rattle.reading.specs.declared.Fields.{Fields}
-use Rattle.reading.specs.Bytes.{byte-at, u16-at, kind-of, array-count, body-count, length-at, arrays-of, entry-at, records-in, declarations-in, last-of-entry, sizes-of, first-record, record-count, bodies-at, fields-at}
+use Rattle.reading.specs.Bytes.{byte-at, u16-at, kind-of, array-count, body-count, length-at, layout-of, entry-at, records-in, declarations-in, last-of-entry, sizes-of, first-record, record-count, bodies-at, fields-at, lengths-of}
+use Rattle.reading.proofs.Tables.{first-zero, first-more, cells-first, sums-within}
 use Rattle.sums.specs.Sums.{plain-sum, weighted-sum, check-bytes}
 use Rattle.frame.specs.Frame.{checks-fit}
 use Rattle.files.specs.Files.{u16-bytes, record-bytes, Body, entry-bytes, joined, front, file}
@@ -27,15 +29,15 @@ unfolding u16-at
 u16-is f i n (more low (more high none)) = rw (add-one, low, high) (u16-back n)
 
 -- how long the parts are
-lengths-length : (arrays : Arrays) → length (joined u16-bytes arrays) ≡ 2 * length arrays
+lengths-length : (l : List ℕ) → length (joined u16-bytes l) ≡ 2 * length l
 lengths-length = joined-length u16-bytes 2 (λ n. refl)
 
 entries-length : (bodies : List Body) → length (joined entry-bytes bodies) ≡ 4 * length bodies
 entries-length = joined-length entry-bytes 4 (λ b. refl)
 
-front-length : (kind : ℕ) (arrays : Arrays) (bodies : List Body) → length (front kind arrays bodies) ≡ 4 + 2 * length arrays + 4 * length bodies
-front-length kind arrays bodies =
-    omega (arith, length-append (joined u16-bytes arrays) (joined entry-bytes bodies), lengths-length arrays, entries-length bodies)
+front-length : (kind : ℕ) (layout : Layout) (bodies : List Body) → length (front kind layout bodies) ≡ 4 + 2 * length (layout .lengths) + 4 * length bodies
+front-length kind layout bodies =
+    omega (arith, length-append (joined u16-bytes (layout .lengths)) (joined entry-bytes bodies), lengths-length (layout .lengths), entries-length bodies)
 
 abbrev pub body-size : Body → ℕ
 body-size b = length (b .records)
@@ -49,33 +51,33 @@ body-bytes b = joined record-bytes (b .records)
 body-length : (b : Body) → length (body-bytes b) ≡ 8 * body-size b
 body-length b = joined-length record-bytes 8 (λ x. refl) (b .records)
 
-bodies-length : (bodies : List Body) → length (joined body-bytes bodies) ≡ 8 * cells (sizes bodies)
+bodies-length : (bodies : List Body) → length (joined body-bytes bodies) ≡ 8 * sum (sizes bodies)
 bodies-length [] = refl
 bodies-length (b ∷ bodies) = omega (arith, length-append (body-bytes b) (joined body-bytes bodies), body-length b, bodies-length bodies)
 
 -- the parts of a file, in order
-record Parts (f : List ℕ) (kind : ℕ) (arrays : Arrays) (bodies : List Body) : Type 0 where
+record Parts (f : List ℕ) (kind : ℕ) (layout : Layout) (bodies : List Body) : Type 0 where
   kind-is : kind-of f ≡ kind
-  array-count-is : array-count f ≡ length arrays
+  array-count-is : array-count f ≡ length (layout .lengths)
   body-count-is : body-count f ≡ length bodies
   zero-is : byte-at f 3 ≡ 0
-  lengths : Holds (byte-at f) 4 (joined u16-bytes arrays)
-  entries : Holds (byte-at f) (4 + 2 * length arrays) (joined entry-bytes bodies)
-  records : Holds (byte-at f) (4 + 2 * length arrays + 4 * length bodies) (joined body-bytes bodies)
+  lengths : Holds (byte-at f) 4 (joined u16-bytes (layout .lengths))
+  entries : Holds (byte-at f) (4 + 2 * length (layout .lengths)) (joined entry-bytes bodies)
+  records : Holds (byte-at f) (4 + 2 * length (layout .lengths) + 4 * length bodies) (joined body-bytes bodies)
 
-parts : (f : List ℕ) (kind : ℕ) (arrays : Arrays) (bodies : List Body) → Holds (byte-at f) 0 (front kind arrays bodies ++ joined body-bytes bodies) → Parts f kind arrays bodies
-parts f kind arrays bodies (more e0 (more e1 (more e2 (more e3 h)))) =
-    let lengths = joined u16-bytes arrays in
+parts : (f : List ℕ) (kind : ℕ) (layout : Layout) (bodies : List Body) → Holds (byte-at f) 0 (front kind layout bodies ++ joined body-bytes bodies) → Parts f kind layout bodies
+parts f kind layout bodies (more e0 (more e1 (more e2 (more e3 h)))) =
+    let lengths = joined u16-bytes (layout .lengths) in
     let entries = joined entry-bytes bodies in
     let contents = front-part (lengths ++ entries) (joined body-bytes bodies) h in
-    let start : 4 + length (lengths ++ entries) ≡ 4 + 2 * length arrays + 4 * length bodies = omega (arith, front-length kind arrays bodies) in
+    let start : 4 + length (lengths ++ entries) ≡ 4 + 2 * length (layout .lengths) + 4 * length bodies = omega (arith, front-length kind layout bodies) in
     record {
       kind-is = e0;
       array-count-is = e1;
       body-count-is = e2;
       zero-is = e3;
       lengths = front-part lengths entries contents;
-      entries = rw (lengths-length arrays) at (back-part lengths contents);
+      entries = rw (lengths-length (layout .lengths)) at (back-part lengths contents);
       records = rw start at (back-part (lengths ++ entries) h);
     }
 
@@ -108,10 +110,10 @@ module _ (f : List ℕ) where
 abbrev no-body : Body
 no-body = record { declarations = 0; records = [] }
 
-module _ (f : List ℕ) (kind : ℕ) (arrays : Arrays) (bodies : List Body) (p : Parts f kind arrays bodies) where
-  lengths-held : Holds (length-at f) 0 arrays
+module _ (f : List ℕ) (kind : ℕ) (layout : Layout) (bodies : List Body) (p : Parts f kind layout bodies) where
+  lengths-held : Holds (length-at f) 0 (layout .lengths)
   unfolding length-at
-  lengths-held = each-so (λ a n h. u16-is f (4 + 2 * a) n h) (pieces u16-bytes 2 (λ n. refl) (byte-at f) 4 arrays 0 (p .lengths))
+  lengths-held = each-so (λ a n h. u16-is f (4 + 2 * a) n h) (pieces u16-bytes 2 (λ n. refl) (byte-at f) 4 (layout .lengths) 0 (p .lengths))
 
   entries-held : Along (Entry f) 0 bodies
   unfolding entry-at
@@ -119,13 +121,16 @@ module _ (f : List ℕ) (kind : ℕ) (arrays : Arrays) (bodies : List Body) (p :
       each-so (entry-is f)
       (pieces entry-bytes 4 (λ b. refl) (byte-at f) (4 + 2 * array-count f) bodies 0 (rw (add-zero, p .array-count-is) (p .entries)))
 
-  bodies-start : bodies-at f ≡ 4 + 2 * length arrays + 4 * length bodies
+  bodies-start : bodies-at f ≡ 4 + 2 * length (layout .lengths) + 4 * length bodies
   unfolding entry-at
   bodies-start = rw (p .array-count-is, p .body-count-is)
 
-  arrays-are : arrays-of f ≡ arrays
-  unfolding arrays-of
-  arrays-are = rw (p .array-count-is) (table-is (length-at f) arrays lengths-held)
+  lengths-are : lengths-of f ≡ layout .lengths
+  unfolding lengths-of
+  lengths-are = rw (p .array-count-is) (table-is (length-at f) (layout .lengths) lengths-held)
+
+  arrays-are : layout-of f ≡ layout
+  arrays-are = λ i. record { lengths = lengths-are i }
 
   sizes-are : sizes-of f ≡ sizes bodies
   unfolding sizes-of
@@ -136,44 +141,21 @@ module _ (f : List ℕ) (kind : ℕ) (arrays : Arrays) (bodies : List Body) (p :
   records-held : (l : List Fields) (r : ℕ) → Holds (byte-at f) (bodies-at f + 8 * r) (joined record-bytes l) → Holds (fields-at f) r l
   records-held l r h = each-so (fields-are f) (pieces record-bytes 8 (λ x. refl) (byte-at f) (bodies-at f) l r h)
 
-  bodies-held : (l : List Body) (r b : ℕ) → Holds (byte-at f) (bodies-at f + 8 * r) (joined body-bytes l) → b < length l → Holds (fields-at f) (r + first-of (sizes l) b) (getD l b no-body .records)
-  unfolding first-of
+  bodies-held : (l : List Body) (r b : ℕ) → Holds (byte-at f) (bodies-at f + 8 * r) (joined body-bytes l) → b < length l → Holds (fields-at f) (r + sum-before (sizes l) b) (getD l b no-body .records)
+  unfolding sum-before
   bodies-held [] r b h k = absurd (omega arith)
   bodies-held (x ∷ l) r zero h k = rw add-zero (records-held (x .records) r (front-part (body-bytes x) (joined body-bytes l) h))
   bodies-held (x ∷ l) r (suc b) h k =
       let next : bodies-at f + 8 * r + length (body-bytes x) ≡ bodies-at f + 8 * (r + body-size x) = omega (arith, body-length x) in
       rw (← add-assoc) (bodies-held l (r + body-size x) b (rw next at (back-part (body-bytes x) h)) (omega arith))
 
--- "Records are numbered from 0 through all bodies in order": the sums of a list up to an entry
-first-of-start : (l : List ℕ) → first-of l 0 ≡ 0
-unfolding first-of
-first-of-start [] = refl
-first-of-start (n ∷ l) = refl
-
-first-of-next : (l : List ℕ) (b : ℕ) → b < length l → first-of l (suc b) ≡ first-of l b + getD l b 0
-unfolding first-of
-first-of-next [] b h = absurd (omega arith)
-first-of-next (n ∷ l) zero h = omega (arith, first-of-start l)
-first-of-next (n ∷ l) (suc b) h = omega (arith, first-of-next l b (omega arith))
-
-first-of-all : (l : List ℕ) → first-of l (length l) ≡ cells l
-unfolding first-of
-first-of-all [] = refl
-first-of-all (n ∷ l) = rw (first-of-all l)
-
-pub first-of-within : (l : List ℕ) (b : ℕ) → first-of l b ≤ cells l
-unfolding first-of
-first-of-within [] b = omega arith
-first-of-within (n ∷ l) zero = omega arith
-first-of-within (n ∷ l) (suc b) = omega (arith, first-of-within l b)
-
 -- a file with such arrays
-pub record Arrayed (f : List ℕ) (arrays : Arrays) : Type 0 where
-  pub counted : array-count f ≡ length arrays
-  pub held : Holds (length-at f) 0 arrays
+pub record Arrayed (f : List ℕ) (layout : Layout) : Type 0 where
+  pub counted : array-count f ≡ length (layout .lengths)
+  pub held : Holds (length-at f) 0 (layout .lengths)
 
-pub array-length : (f : List ℕ) (arrays : Arrays) → Arrayed f arrays → (a : ℕ) → a < length arrays → length-at f a ≡ length-of arrays a
-array-length f arrays p a h = rw zero-add at (at-place (p .held) 0 a h)
+pub array-length : (f : List ℕ) (layout : Layout) → Arrayed f layout → (a : ℕ) → a < length (layout .lengths) → length-at f a ≡ span-of layout a .length
+array-length f layout p a h = rw zero-add at (at-place (p .held) 0 a h)
 
 -- body b of a file
 pub record Placed (f : List ℕ) (b : ℕ) (x : Body) : Type 0 where
@@ -182,17 +164,17 @@ pub record Placed (f : List ℕ) (b : ℕ) (x : Body) : Type 0 where
   pub held : Holds (fields-at f) (first-record f b) (x .records)
 
 -- a file with such contents
-pub record Laid (f : List ℕ) (kind : ℕ) (arrays : Arrays) (bodies : List Body) : Type 0 where
+pub record Laid (f : List ℕ) (kind : ℕ) (layout : Layout) (bodies : List Body) : Type 0 where
   pub kind-is : kind-of f ≡ kind
-  pub arrayed : Arrayed f arrays
+  pub arrayed : Arrayed f layout
   pub body-count-is : body-count f ≡ length bodies
   pub zero-is : byte-at f 3 ≡ 0
-  pub arrays-are : arrays-of f ≡ arrays
+  pub arrays-are : layout-of f ≡ layout
   pub start-is : first-record f 0 ≡ 0
-  pub count-is : record-count f ≡ cells (sizes bodies)
-  pub within : (b : ℕ) → first-record f b ≤ cells (sizes bodies)
+  pub count-is : record-count f ≡ sum (sizes bodies)
+  pub within : (b : ℕ) → first-record f b ≤ sum (sizes bodies)
   pub placed : Along (Placed f) 0 bodies
-  pub bodies-start : bodies-at f ≡ 4 + 2 * length arrays + 4 * length bodies
+  pub bodies-start : bodies-at f ≡ 4 + 2 * length (layout .lengths) + 4 * length bodies
   pub long : length f ≡ bodies-at f + 8 * record-count f + 2
   pub checked : checks-fit f ≡ true
 
@@ -204,16 +186,16 @@ checks-of s =
     rw (n-is, take-at s (check-bytes s) (length s) refl, getD-append-seam, getD-append-add s (check-bytes s) 1 0)
     (and-in _ _ (eq-eqb (plain-sum s % 251) _ refl) (eq-eqb (weighted-sum 1 s % 251) _ refl))
 
-module _ (kind : ℕ) (arrays : Arrays) (bodies : List Body) where
+module _ (kind : ℕ) (layout : Layout) (bodies : List Body) where
   abbrev f : List ℕ
-  f = file kind arrays bodies
+  f = file kind layout bodies
 
   -- all but the check bytes
   abbrev summed : List ℕ
-  summed = front kind arrays bodies ++ joined body-bytes bodies
+  summed = front kind layout bodies ++ joined body-bytes bodies
 
-  summed-length : length summed ≡ 4 + 2 * length arrays + 4 * length bodies + 8 * cells (sizes bodies)
-  summed-length = omega (arith, length-append (front kind arrays bodies) (joined body-bytes bodies), front-length kind arrays bodies, bodies-length bodies)
+  summed-length : length summed ≡ 4 + 2 * length (layout .lengths) + 4 * length bodies + 8 * sum (sizes bodies)
+  summed-length = omega (arith, length-append (front kind layout bodies) (joined body-bytes bodies), front-length kind layout bodies, bodies-length bodies)
 
   whole : Holds (byte-at f) 0 (summed ++ check-bytes summed)
   unfolding file
@@ -227,36 +209,35 @@ module _ (kind : ℕ) (arrays : Arrays) (bodies : List Body) where
   unfolding file
   checked = checks-of summed
 
-  placed : Parts f kind arrays bodies → Along (Placed f) 0 bodies
+  placed : Parts f kind layout bodies → Along (Placed f) 0 bodies
   placed p = along-of bodies 0 no-body (λ b h. rw zero-add (at-body b h))
     where
       at-body : (b : ℕ) → b < length bodies → Placed f b (getD bodies b no-body)
       at-body b h =
-          let sizes-is : sizes-of f ≡ sizes bodies = sizes-are f kind arrays bodies p in
-          let start : Holds (byte-at f) (bodies-at f + 8 * 0) (joined body-bytes bodies) = rw (add-zero, bodies-start f kind arrays bodies p) (p .records) in
-          let inside : b < length (sizes bodies) = rw (length-map bodies body-size) h in
+          let sizes-is : sizes-of f ≡ sizes bodies = sizes-are f kind layout bodies p in
+          let start : Holds (byte-at f) (bodies-at f + 8 * 0) (joined body-bytes bodies) = rw (add-zero, bodies-start f kind layout bodies p) (p .records) in
           record {
-            entry = rw zero-add at (at-place (entries-held f kind arrays bodies p) no-body b h);
-            next = rw (sizes-is, ← List·getD-map body-size bodies b no-body) (first-of-next (sizes bodies) b inside);
-            held = rw sizes-is (rw zero-add at (bodies-held f kind arrays bodies p bodies 0 b start h));
+            entry = rw zero-add at (at-place (entries-held f kind layout bodies p) no-body b h);
+            next = rw (sizes-is, ← List·getD-map body-size bodies b no-body) (first-more (sizes bodies) b);
+            held = rw sizes-is (rw zero-add at (bodies-held f kind layout bodies p bodies 0 b start h));
           }
 
-  pub laid : Laid f kind arrays bodies
+  pub laid : Laid f kind layout bodies
   laid =
-      let p = parts f kind arrays bodies (front-part summed (check-bytes summed) whole) in
-      let sizes-is : sizes-of f ≡ sizes bodies = sizes-are f kind arrays bodies p in
-      let count : record-count f ≡ cells (sizes bodies) = rw (sizes-is, p .body-count-is, ← length-map bodies body-size) (first-of-all (sizes bodies)) in
+      let p = parts f kind layout bodies (front-part summed (check-bytes summed) whole) in
+      let sizes-is : sizes-of f ≡ sizes bodies = sizes-are f kind layout bodies p in
+      let count : record-count f ≡ sum (sizes bodies) = rw (sizes-is, p .body-count-is, ← length-map bodies body-size) (sym (cells-first (sizes bodies))) in
       record {
         kind-is = p .kind-is;
-        arrayed = record { counted = p .array-count-is; held = lengths-held f kind arrays bodies p };
+        arrayed = record { counted = p .array-count-is; held = lengths-held f kind layout bodies p };
         body-count-is = p .body-count-is;
         zero-is = p .zero-is;
-        arrays-are = arrays-are f kind arrays bodies p;
-        start-is = first-of-start (sizes-of f);
+        arrays-are = arrays-are f kind layout bodies p;
+        start-is = first-zero (sizes-of f);
         count-is = count;
-        within = λ b. rw sizes-is (first-of-within (sizes bodies) b);
+        within = λ b. rw sizes-is (sums-within (sizes bodies) b);
         placed = placed p;
-        bodies-start = bodies-start f kind arrays bodies p;
-        long = omega (arith, file-length, summed-length, bodies-start f kind arrays bodies p);
+        bodies-start = bodies-start f kind layout bodies p;
+        long = omega (arith, file-length, summed-length, bodies-start f kind layout bodies p);
         checked = checked;
       }

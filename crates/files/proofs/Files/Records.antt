@@ -9,7 +9,7 @@ use native.Mathlib.Nat.{add-zero}
 use lib.ListN.{length, length-append}
 use lib.Dec.{ltb, leb}
 use borrow.Author.Tests.{lt-ltb, le-ltb, ltb-true}
-use Rattle.model.specs.Sides.{Side, host, card, Arrays, Cells, length-of}
+use Rattle.model.specs.Sides.{Side, host, card, Cells, span-of, Layout}
 use Rattle.model.specs.Effects.{Action, read, write, copy, need, mark}
 use Rattle.model.specs.Blocks.{Block, size}
 use Rattle.model.proofs.Booleans.{and-out}
@@ -102,18 +102,18 @@ fields-count (Block.branch r x y b) =
 fields-count (Block.loop r x b) = omega (arith, fields-count x, fields-count b, length-append (block-fields x) (block-fields b))
 
 -- where the arrays are these, and the records from `low` on may be of the kinds 1 to 7
-module _ (f : List ℕ) (b low : ℕ) (arrays : Arrays) (arrayed : Arrayed f arrays)
+module _ (f : List ℕ) (b low : ℕ) (layout : Layout) (arrayed : Arrayed f layout)
     (may : (r : ℕ) (x : Fields) → low ≤ r → between 1 7 (x .kind) ≡ true → allowed f b r x ≡ true) where
   abbrev ranged : Side → Cells → Bool
   ranged s x = ltb (side-number s) 2 && ltb (x .array) (array-count f) && true && ltb (x .p) (x .q) && leb (x .q) (length-at f (x .array))
 
-  ranged-fit : (s : Side) (x : Cells) → cells-fit arrays x ≡ true → ranged s x ≡ true
+  ranged-fit : (s : Side) (x : Cells) → cells-fit layout x ≡ true → ranged s x ≡ true
   ranged-fit s x e =
-      let h = and-out (ltb (x .array) (length arrays)) (ltb (x .p) (x .q) && leb (x .q) (length-of arrays (x .array))) e in
-      let k = and-out (ltb (x .p) (x .q)) (leb (x .q) (length-of arrays (x .array))) (h .1) in
-      rw (side-fits s, arrayed .counted, h .0, k .0, array-length f arrays arrayed (x .array) (ltb-true _ _ (h .0)), k .1)
+      let h = and-out (ltb (x .array) (length (layout .lengths))) (ltb (x .p) (x .q) && leb (x .q) (span-of layout (x .array) .length)) e in
+      let k = and-out (ltb (x .p) (x .q)) (leb (x .q) (span-of layout (x .array) .length)) (h .1) in
+      rw (side-fits s, arrayed .counted, h .0, k .0, array-length f layout arrayed (x .array) (ltb-true _ _ (h .0)), k .1)
 
-  action-fit : (x : Action) → action-fits arrays x ≡ true → fields-fit f (action-fields x) ≡ true
+  action-fit : (x : Action) → action-fits layout x ≡ true → fields-fit f (action-fields x) ≡ true
   unfolding fields-fit
   action-fit (read s x) e = ranged-fit s x e
   action-fit (write s x) e = ranged-fit s x e
@@ -121,17 +121,17 @@ module _ (f : List ℕ) (b low : ℕ) (arrays : Arrays) (arrayed : Arrayed f arr
   action-fit (need s a) e = rw (side-fits s, arrayed .counted, e)
   action-fit (mark s a) e = rw (side-fits s, arrayed .counted, e)
 
-  pub block-walks : (x : Block) (levels depth r : ℕ) → block-fits arrays levels x ≡ true → depth + levels ≤ deepest f + 1 → low ≤ r → Holds (fields-at f) r (block-fields x) → Walks f b depth r (r + size x)
+  pub block-walks : (x : Block) (levels depth r : ℕ) → block-fits layout levels x ≡ true → depth + levels ≤ deepest f + 1 → low ≤ r → Holds (fields-at f) r (block-fields x) → Walks f b depth r (r + size x)
   block-walks Block.done levels depth r e d l h = at-end f b depth r (r + 0) (omega arith)
   block-walks (Block.act _ x t) levels depth r e d l (more x-is h) =
-      let fit = and-out (action-fits arrays x) (block-fits arrays levels t) e in
+      let fit = and-out (action-fits layout x) (block-fits layout levels t) e in
       let next : suc r + size t ≡ r + suc (size t) = omega arith in
       at-plain f b depth r (r + suc (size t)) (action-fields x) x-is (action-fit x (fit .0)) (may r (action-fields x) l (action-kind x .0)) (no-arms x .0) (no-arms x .1) (action-kind x .1) (omega arith)
       (rw next at (block-walks t levels depth (suc r) (fit .1) d (omega arith) h))
   block-walks (Block.branch _ x y t) zero depth r e d l h = absurd (false≢true e)
   block-walks (Block.branch _ x y t) (suc levels) depth r e d l (more x-is h) =
-      let fit = and-out (block-fits arrays levels x) (block-fits arrays levels y && block-fits arrays (suc levels) t) e in
-      let fit′ = and-out (block-fits arrays levels y) (block-fits arrays (suc levels) t) (fit .1) in
+      let fit = and-out (block-fits layout levels x) (block-fits layout levels y && block-fits layout (suc levels) t) e in
+      let fit′ = and-out (block-fits layout levels y) (block-fits layout (suc levels) t) (fit .1) in
       let h′ = back-at (block-fields x) (size x) (fields-count x) h in
       let next : suc r + size x + size y + size t ≡ r + suc (size x + size y + size t) = omega arith in
       at-branch f b depth r (r + suc (size x + size y + size t)) (size x) (omega arith) (size y) x-is (may r (fields 6 0 0 (size x) (size y)) l refl) (omega arith)
@@ -140,7 +140,7 @@ module _ (f : List ℕ) (b low : ℕ) (arrays : Arrays) (arrayed : Arrayed f arr
       (rw next at (block-walks t (suc levels) depth (suc r + size x + size y) (fit′ .1) d (omega arith) (back-at (block-fields y) (size y) (fields-count y) h′)))
   block-walks (Block.loop _ x t) zero depth r e d l h = absurd (false≢true e)
   block-walks (Block.loop _ x t) (suc levels) depth r e d l (more x-is h) =
-      let fit = and-out (block-fits arrays levels x) (block-fits arrays (suc levels) t) e in
+      let fit = and-out (block-fits layout levels x) (block-fits layout (suc levels) t) e in
       let next : suc r + size x + size t ≡ r + suc (size x + size t) = omega arith in
       at-loop f b depth r (r + suc (size x + size t)) (size x) (omega arith) x-is (may r (fields 7 0 0 (size x) 0) l refl) (omega arith)
       (block-walks x levels (depth + 1) (suc r) (fit .0) (omega arith) (omega arith) (front-part (block-fields x) _ h))

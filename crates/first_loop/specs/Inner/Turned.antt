@@ -6,7 +6,7 @@ use mathlib.Core.Bool.{true, false}
 use mathlib.Core.List.{List}
 use Rattle.model.specs.declared.Verdict.the-variants.{Accepted}
 use Rattle.model.proofs.Through.{Goes, Stops}
-use Rattle.reading.specs.Bytes.{kind-of, arrays-of, record-count, fields-at}
+use Rattle.reading.specs.Bytes.{kind-of, layout-of, record-count, fields-at}
 use Rattle.format.specs.Opening.{opening}
 use Rattle.statuses.specs.declared.acts.Found.{Found}
 use Rattle.statuses.specs.Inner.Sets.{at-start}
@@ -25,7 +25,7 @@ pub record Loops (f : List ℕ) : Type 0 where
 -- t has the statuses of cell 0 after n turns of that loop from the start, and the lowest record that stops in one of these turns
 abbrev pub FirstLoop : List ℕ → ℕ → Found → Type 0
 FirstLoop f n t =
-    Ran (Power (Goes (arrays-of f) 0 (body-of f 0)) n) (StopsWithin (Goes (arrays-of f) 0 (body-of f 0)) (Stops (arrays-of f) 0 (body-of f 0)) n) (λ u. u ≡ at-start) 65535 t
+    Ran (Power (Goes (layout-of f) 0 (body-of f 0)) n) (StopsWithin (Goes (layout-of f) 0 (body-of f 0)) (Stops (layout-of f) 0 (body-of f 0)) n) (λ u. u ≡ at-start) 65535 t
 
 -- of such a file what is found, of another one nothing
 unfoldable pub AfterTurns : List ℕ → ℕ → Turned → Type 0

@@ -4,11 +4,11 @@ use mathlib.Core.List.{List}
 use Prim.Native.Nat.{ℕ, _+_, _≤_}
 use lib.ListN.{getD}
 use Rattle.model.specs.declared.Verdict.the-variants.{Accepted}
-use Rattle.model.specs.Sides.{first-of}
+use Rattle.model.specs.Sides.{span-of}
 use Rattle.model.specs.Blocks.{Block}
 use Rattle.model.specs.Judging.{Body0}
 use Rattle.model.specs.Rows.{first}
-use Rattle.reading.specs.Bytes.{kind-of, array-count, arrays-of, bodies-at, fields-at}
+use Rattle.reading.specs.Bytes.{kind-of, array-count, layout-of, bodies-at, fields-at}
 use Rattle.records.specs.Records.{block-rows}
 use Rattle.format.specs.Opening.{opening}
 use Rattle.format.specs.Plans.{block-of, body0-of}
@@ -21,7 +21,7 @@ pub record Plain (f : List ℕ) (bodies : ℕ) : Type 0 where
 
 -- the first cell of each array, and after the last array the number of cells
 pub record Starts (f : List ℕ) (starts : List ℕ) : Type 0 where
-  pub first : (a : ℕ) → a ≤ array-count f → getD starts a 0 ≡ first-of (arrays-of f) a
+  pub first : (a : ℕ) → a ≤ array-count f → getD starts a 0 ≡ span-of (layout-of f) a .first
 
 -- the records r up to `end` of body b, inside `depth` branches and loops, all pass their tests
 pub record Good (f : List ℕ) (b depth r end : ℕ) : Type 0 where

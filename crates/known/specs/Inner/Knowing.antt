@@ -5,7 +5,8 @@ use mathlib.Core.Bool.{Bool, true, false, not, cond, _&&_, _||_}
 use mathlib.Core.List.{List}
 use lib.Dec.{eqb}
 use lib.ListN.{length, getD}
-use Rattle.model.specs.Sides.{Arrays, cells, array-of}
+use Rattle.model.specs.Inner.Holders.{array-of}
+use Rattle.model.specs.Sides.{Layout, cell-count}
 use Rattle.memories.specs.Flags.{mask}
 use Rattle.memories.specs.Inner.Ranges.{AllCurrent}
 use Rattle.known.specs.declared.Known.{Known}
@@ -19,15 +20,15 @@ abbrev pub at-start : ℕ → Known
 at-start arrays = record { host = mask arrays (λ a. true); card = 0 }
 
 -- the cells of the arrays in a set are current
-pub record Sound (arrays : Arrays) (known : ℕ) (copies latest : List ℕ) : Type 0 where
+pub record Sound (layout : Layout) (known : ℕ) (copies latest : List ℕ) : Type 0 where
   pub these : ℕ → Bool
-  pub masked : known ≡ mask (length arrays) these
-  pub current : (c : ℕ) → c < cells arrays → these (array-of arrays c) ≡ true → getD copies c 0 ≡ getD latest c 0
+  pub masked : known ≡ mask (length (layout .lengths)) these
+  pub current : (c : ℕ) → c < cell-count layout → these (array-of layout c) ≡ true → getD copies c 0 ≡ getD latest c 0
 
 -- what is known holds of the memories
-pub record Knows (arrays : Arrays) (k : Known) (host card latest : List ℕ) : Type 0 where
-  pub on-host : Sound arrays (k .host) host latest
-  pub on-card : Sound arrays (k .card) card latest
+pub record Knows (layout : Layout) (k : Known) (host card latest : List ℕ) : Type 0 where
+  pub on-host : Sound layout (k .host) host latest
+  pub on-card : Sound layout (k .card) card latest
 
 -- if array a is in a set, the cells `from` up to `to` are current
 pub record Tells (known a from to : ℕ) (copies latest : List ℕ) : Type 0 where

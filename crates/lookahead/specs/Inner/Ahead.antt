@@ -5,13 +5,13 @@ use mathlib.Core.Bool.{Bool, cond, _&&_, _||_}
 use mathlib.Core.List.{List}
 use lib.Dec.{eqb, leb, ltb}
 use lib.ListN.{length, getD}
-use Rattle.model.specs.Sides.{first-of}
+use Rattle.model.specs.Sides.{span-of}
 use Rattle.reading.specs.declared.Fields.{Fields}
-use Rattle.reading.specs.Bytes.{arrays-of, record-count, fields-at, first-arm, second-arm}
+use Rattle.reading.specs.Bytes.{layout-of, record-count, fields-at, first-arm, second-arm}
 
 -- the number of cell `offset` of an array
 abbrev pub cell-at : List ℕ → ℕ → ℕ → ℕ
-cell-at f array offset = first-of (arrays-of f) array + offset
+cell-at f array offset = span-of (layout-of f) array .first + offset
 
 -- whether a record of kind 1 to 5 covers cell `offset` of an array
 unfoldable pub covers : Fields → ℕ → ℕ → Bool

@@ -3,8 +3,8 @@ use Prim.Native.Nat.{_+_, _≤_, _<_}
 use mathlib.Core.Path.{sym, _∙_}
 use native.Mathlib.Omega.{arith}
 use lib.ListN.{getD}
-use Rattle.model.specs.Sides.{cells}
-use Rattle.reading.specs.Bytes.{array-count, arrays-of}
+use Rattle.model.specs.Sides.{cell-count}
+use Rattle.reading.specs.Bytes.{array-count, layout-of}
 use Rattle.format.proofs.Walking.{opened-facts}
 use Rattle.format.proofs.Acts.{record-inside}
 use Rattle.memories.proofs.Cells.{same-all, same-more}
@@ -45,7 +45,7 @@ Able-here c =
     let x = c .before .before .before .before .before .record-at .result in
     let first = getD (a .room .now) (x .array) 0 in
     let next = getD (a .room .now) (x .array + 1) 0 in
-    Able (arrays-of (a .plan .now)) x first next (from-of x first) (to-of x first next) (stored-with (runner (a .m) (a .room .now)) (a .t)) (a .m .place .at) (a .host .now) (a .card .now) (a .latest .now)
+    Able (layout-of (a .plan .now)) x first next (from-of x first) (to-of x first next) (stored-with (runner (a .m) (a .room .now)) (a .t)) (a .m .place .at) (a .host .now) (a .card .now) (a .latest .now)
 
 able-here : (c : tie.After-slice-known7) → Able-here c
 able-here c =
@@ -152,9 +152,9 @@ returns-3 c =
     let x = able .before .before .before .before .before .record-at in
     let v = c .before .before .before .before .before .before .before .before .before .act in
     let there = array-there (able .before .before) in
-    let acts = v .ensures .0 (arrays-of (a .args .plan .now)) (rw (fc, nc) (r .spans)) (λ z. rw (fc, nc) (r .whole (rw (fc, nc) at (sym (c .before .before .before .before .before .before .before .before .before .before .before .before .before .before .is-whole .ensures) ∙ z)))) in
+    let acts = v .ensures .0 (layout-of (a .args .plan .now)) (rw (fc, nc) (r .spans)) (λ z. rw (fc, nc) (r .whole (rw (fc, nc) at (sym (c .before .before .before .before .before .before .before .before .before .before .before .before .before .before .is-whole .ensures) ∙ z)))) in
     let held = rw (c .before .before .before .before .before .before .before .before .before .before .before .before .before .acted-on .ensures (a .args .room .now)) at acts in
-    let i : n .next-cell .result ≤ cells (arrays-of (a .args .plan .now)) = rw nc (r .inside) in
+    let i : n .next-cell .result ≤ cell-count (layout-of (a .args .plan .now)) = rw nc (r .inside) in
     ensured _ _ _ _ _ _ _ _ _ _ _ _ _ (a .pre .1)
     (λ k w. rw (c .before .after .ensures, c .tally-after .ensures) (at-record _ _ _ _ _ _ _ (a .pre .0) k w (before-end (able .before .before .before .before .before .before)) _ (x .ensures) (r .kind .1) _ _ (a .pre .1 .stands .starts .first _ (omega arith)) (a .pre .1 .stands .starts .first _ (omega arith)) (v .result) _ _ _ held))
     (same-more i (v .ensures .1 .0)) (same-more i (v .ensures .1 .1 .0)) (same-more i (v .ensures .1 .1 .1))

@@ -5,10 +5,11 @@ use mathlib.Core.Bool.{Bool, true, false, not, _&&_, _||_}
 use mathlib.Core.List.{List}
 use lib.Dec.{leb, ltb, eqb}
 use lib.ListN.{length, getD}
-use Rattle.model.specs.Sides.{cells, first-of, array-of}
+use Rattle.model.specs.Inner.Holders.{array-of}
+use Rattle.model.specs.Sides.{cell-count, span-of}
 use Rattle.model.specs.Judging.{always-writes}
 use Rattle.reading.specs.declared.Fields.{Fields}
-use Rattle.reading.specs.Bytes.{array-count, arrays-of}
+use Rattle.reading.specs.Bytes.{array-count, layout-of}
 use Rattle.reading.specs.Inner.Cells.{from-of, to-of}
 use Rattle.format.specs.Plans.{side-of}
 use Rattle.format.specs.Inner.Walks.{block-between}
@@ -29,9 +30,9 @@ all-marked set c (suc n) = marked set c && all-marked set (suc c) n
 
 -- the first cell of each array, and a side for each
 pub record Tables (f starts sides : List ℕ) : Type 0 where
-  pub starts-are : (a : ℕ) → a ≤ array-count f → getD starts a 0 ≡ first-of (arrays-of f) a
+  pub starts-are : (a : ℕ) → a ≤ array-count f → getD starts a 0 ≡ span-of (layout-of f) a .first
   pub arrays-low : array-count f ≤ 32
-  pub cells-low : cells (arrays-of f) ≤ 4096
+  pub cells-low : cell-count (layout-of f) ≤ 4096
   pub sides-low : (a : ℕ) → a < 32 → getD sides a 0 < 2
 
 -- whether a record with the fields x writes cell c, if on the side for its array
@@ -43,7 +44,7 @@ hits starts sides x c =
 
 -- whether every way through the records r up to `end` writes cell c on the side for its array
 unfoldable pub always : List ℕ → List ℕ → ℕ → ℕ → ℕ → Bool
-always f sides r end c = always-writes (arrays-of f) (side-of (getD sides (array-of (arrays-of f) c) 0)) c (block-between f r end)
+always f sides r end c = always-writes (layout-of f) (side-of (getD sides (array-of (layout-of f) c) 0)) c (block-between f r end)
 
 -- whether a declaration with the fields x is met where the cells of the set are written
 unfoldable pub met : List ℕ → List Bool → Fields → Bool

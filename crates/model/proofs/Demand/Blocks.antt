@@ -4,7 +4,7 @@ use mathlib.Core.Path.{_≡_, refl, ap, sym, _∙_}
 use mathlib.Core.Logic.{_⊎_, inl, inr}
 use mathlib.Core.List.{List, [], _∷_}
 use mathlib.Core.Bool.{Bool, true, false, cond, _&&_, _||_, and-assoc, or-assoc}
-use Rattle.model.specs.Sides.{Side, Arrays}
+use Rattle.model.specs.Sides.{Side, Layout}
 use Rattle.model.specs.Effects.{Action}
 use Rattle.model.specs.Blocks.{Block, act, branch, loop, _then_}
 use Rattle.model.specs.Judging.{Mode, R, W, RW, Declaration, Pass, Body0, pass-of, every, always-writes}
@@ -66,9 +66,9 @@ module _ (f : Action → Bool) where
   every-loop r false x b e = and-out (every f x) (every f b) e .1
 
 -- a block that always writes a cell does so after a choice
-module _ (arrays : Arrays) (s : Side) (n : ℕ) where
+module _ (layout : Layout) (s : Side) (n : ℕ) where
   abbrev always : Block → Bool
-  always = always-writes arrays s n
+  always = always-writes layout s n
 
   always-then : (a b : Block) → always (a then b) ≡ (always a || always b)
   always-then Block.done b = refl
@@ -76,8 +76,8 @@ module _ (arrays : Arrays) (s : Side) (n : ℕ) where
   always-then (branch r x y a) b = simp (always-then a b, or-assoc)
   always-then (loop r x a) b = always-then a b
 
-  pub always-branch : (r : ℕ) (c : Bool) (x y b : Block) → always-writes arrays s n (branch r x y b) ≡ true →
-      always-writes arrays s n (cond c x y then b) ≡ true
+  pub always-branch : (r : ℕ) (c : Bool) (x y b : Block) → always-writes layout s n (branch r x y b) ≡ true →
+      always-writes layout s n (cond c x y then b) ≡ true
   always-branch r c x y b e = rw (always-then (cond c x y) b) (go (or-out (always x && always y) (always b) e))
     where
       arm : (c : Bool) → (always x ≡ true) × (always y ≡ true) → always (cond c x y) ≡ true
@@ -88,7 +88,7 @@ module _ (arrays : Arrays) (s : Side) (n : ℕ) where
       go (inl g) = or-left (always (cond c x y)) (always b) (arm c (and-out (always x) (always y) g))
       go (inr g) = or-right (always (cond c x y)) (always b) g
 
-  pub always-loop : (r : ℕ) (c : Bool) (x b : Block) → always-writes arrays s n (loop r x b) ≡ true →
-      always-writes arrays s n (cond c (x then loop r x b) b) ≡ true
+  pub always-loop : (r : ℕ) (c : Bool) (x b : Block) → always-writes layout s n (loop r x b) ≡ true →
+      always-writes layout s n (cond c (x then loop r x b) b) ≡ true
   always-loop r true x b e = rw (always-then x (loop r x b)) (or-right (always x) (always b) e)
   always-loop r false x b e = e

@@ -8,11 +8,12 @@ use mathlib.Core.Bool.{Bool, true, false, cond, and-true, and-false, true≢fals
 use lib.Dec.{eqb}
 use borrow.Author.Tests.{eqb-true, eq-eqb}
 use Rattle.model.specs.Lists.{any}
-use Rattle.model.specs.Sides.{Side, host, card, other, is, Stamp, at, Arrays, cells, array-of, Cells, within}
+use Rattle.model.specs.Sides.{Side, host, card, other, is, Stamp, at, Layout, cell-count, Cells, within}
 use Rattle.model.specs.Effects.{Action, read, write, copy, need, mark, State, start, effect}
 use Rattle.model.specs.Blocks.{Block, act}
 use Rattle.model.specs.Judging.{Mode, R, W, RW, reads, writes, Declaration, Pass, DeclaredPlan, pass-of, declares, permits, always-writes, Accepts}
-use Rattle.model.proofs.Numbering.{within-array}
+use Rattle.model.specs.Inner.Holders.{array-of}
+use Rattle.model.proofs.Numbering.{own-span, in-own, within-array}
 use Rattle.model.proofs.Booleans.{eqb-swap, is-same, is-true, is-other, same-or-other}
 use Rattle.model.proofs.Written.{always-written}
 use Rattle.model.proofs.Demand.Blocks.{always-branch, always-loop}
@@ -102,50 +103,50 @@ record Needed (v : CellState) (s : Side) : Type 0 where
   flags-current : FlagsCurrent v
   flag-set : v .flag s ≡ true
 
-module _ (arrays : Arrays) (c : ℕ) where
+module _ (layout : Layout) (c : ℕ) where
   abbrev own : ℕ
-  own = array-of arrays c
+  own = array-of layout c
 
   abbrev pub at-cell : State → CellState
   at-cell σ = record { held = λ t. σ .held t c; latest = σ .latest c; flag = λ t. σ .flag t own }
 
-  pub own-or-other : (a : ℕ) → (array-of arrays c ≡ a) ⊎ (eqb (array-of arrays c) a ≡ false)
+  pub own-or-other : (a : ℕ) → (array-of layout c ≡ a) ⊎ (eqb (array-of layout c) a ≡ false)
   own-or-other a = go (eqb own a) refl
     where
       go : (b : Bool) → eqb own a ≡ b → (own ≡ a) ⊎ (eqb own a ≡ false)
       go true e = inl (eqb-true own a e)
       go false e = inr e
 
-  write-own : (s : Side) (x : Cells) (σ : State) → within arrays x c ≡ true →
-      at-cell (effect arrays (write s x) σ) ≡ after-write s (suc (σ .writes)) (at-cell σ)
+  write-own : (s : Side) (x : Cells) (σ : State) → within layout x c ≡ true →
+      at-cell (effect layout (write s x) σ) ≡ after-write s (suc (σ .writes)) (at-cell σ)
   write-own s x σ e = simp (e, and-true)
 
-  write-other : (s : Side) (x : Cells) (σ : State) → within arrays x c ≡ false → at-cell (effect arrays (write s x) σ) ≡ at-cell σ
+  write-other : (s : Side) (x : Cells) (σ : State) → within layout x c ≡ false → at-cell (effect layout (write s x) σ) ≡ at-cell σ
   write-other s x σ e = simp (e, and-false)
 
-  need-set : (s : Side) (a : ℕ) (σ : State) → σ .flag s a ≡ true → at-cell (effect arrays (need s a) σ) ≡ at-cell σ
+  need-set : (s : Side) (a : ℕ) (σ : State) → σ .flag s a ≡ true → at-cell (effect layout (need s a) σ) ≡ at-cell σ
   need-set s a σ e = simp e
 
-  need-own : (s : Side) (a : ℕ) (σ : State) → own ≡ a → σ .flag s a ≡ false → at-cell (effect arrays (need s a) σ) ≡ after-need s (at-cell σ)
-  need-own s a σ q e = simp (e, eq-eqb own a q, and-true)
+  need-own : c < cell-count layout → (s : Side) (a : ℕ) (σ : State) → own ≡ a → σ .flag s a ≡ false → at-cell (effect layout (need s a) σ) ≡ after-need s (at-cell σ)
+  need-own i s a σ q e = simp (e, in-own layout c i a, eq-eqb own a q, and-true)
 
-  need-other : (s : Side) (a : ℕ) (σ : State) → eqb own a ≡ false → at-cell (effect arrays (need s a) σ) ≡ at-cell σ
-  need-other s a σ q = go (σ .flag s a) refl
+  need-other : c < cell-count layout → (s : Side) (a : ℕ) (σ : State) → eqb own a ≡ false → at-cell (effect layout (need s a) σ) ≡ at-cell σ
+  need-other i s a σ q = go (σ .flag s a) refl
     where
-      go : (b : Bool) → σ .flag s a ≡ b → at-cell (effect arrays (need s a) σ) ≡ at-cell σ
+      go : (b : Bool) → σ .flag s a ≡ b → at-cell (effect layout (need s a) σ) ≡ at-cell σ
       go true e = simp e
-      go false e = simp (e, q, and-false)
+      go false e = simp (e, in-own layout c i a, q, and-false)
 
-  mark-other : (s : Side) (a : ℕ) (σ : State) → eqb own a ≡ false → at-cell (effect arrays (mark s a) σ) ≡ at-cell σ
+  mark-other : (s : Side) (a : ℕ) (σ : State) → eqb own a ≡ false → at-cell (effect layout (mark s a) σ) ≡ at-cell σ
   mark-other s a σ q = simp q
 
   -- in pass p, with its declarations ds still to make and its block b left
   abbrev pub CoherentIn : Pass → Block → List Declaration → State → Type 0
-  CoherentIn p b ds σ = Coherent (p .declarations) own (λ t. always-writes arrays t c b) (any (is-of own) ds) (at-cell σ)
+  CoherentIn p b ds σ = Coherent (p .declarations) own (λ t. always-writes layout t c b) (any (is-of own) ds) (at-cell σ)
 
   -- a declaration of array a on side s, before the declarations ds
   module _ (p : Pass) (b : Block) (s : Side) (a : ℕ) (ds : List Declaration) where
-    pub undeclared : (m : Mode) → array-of arrays c ≡ a → any (is-of (array-of arrays c)) (declaration m s a ∷ ds) ≡ true
+    pub undeclared : (m : Mode) → array-of layout c ≡ a → any (is-of (array-of layout c)) (declaration m s a ∷ ds) ≡ true
     undeclared m q = rw (eq-eqb a own (sym q))
 
     -- of another array
@@ -153,8 +154,8 @@ module _ (arrays : Arrays) (c : ℕ) where
     other-coherent m σ τ e u k = rw u (rw (eqb-swap a own ∙ e) at k)
 
     -- of the cell's own array, once it is made
-    made-coherent : (m : Mode) (σ : State) → own ≡ a → Judged arrays p (declaration m s a ∷ ds) b →
-        (t : Side) × Current (at-cell σ) t → at-cell σ .flag s ≡ true → ((t : Side) → at-cell σ .flag t ≡ true → Current (at-cell σ) t ⊎ (always-writes arrays t c b ≡ true)) →
+    made-coherent : (m : Mode) (σ : State) → own ≡ a → Judged layout p (declaration m s a ∷ ds) b →
+        (t : Side) × Current (at-cell σ) t → at-cell σ .flag s ≡ true → ((t : Side) → at-cell σ .flag t ≡ true → Current (at-cell σ) t ⊎ (always-writes layout t c b ≡ true)) →
         (reads m ≡ true → Current (at-cell σ) s) → (writes m ≡ true → at-cell σ .flag (other s) ≡ false) → CoherentIn p b ds σ
     made-coherent m σ q j now set f r w = record {
       current = now;
@@ -165,38 +166,38 @@ module _ (arrays : Arrays) (c : ℕ) where
       writable = λ u t e. let g = j .rules .0 .sole writes t (rw q at e) in rw (← g .1) (w (g .0));
     }
 
-    needed : (m : Mode) (σ : State) → CoherentIn p b (declaration m s a ∷ ds) σ → own ≡ a → Needed (at-cell (effect arrays (need s a) σ)) s
-    needed m σ k q = go (σ .flag s a) refl
+    needed : c < cell-count layout → (m : Mode) (σ : State) → CoherentIn p b (declaration m s a ∷ ds) σ → own ≡ a → Needed (at-cell (effect layout (need s a) σ)) s
+    needed i m σ k q = go (σ .flag s a) refl
       where
         before : FlagsCurrent (at-cell σ)
         before = k .flags-current (undeclared m q)
 
-        go : (z : Bool) → σ .flag s a ≡ z → Needed (at-cell (effect arrays (need s a) σ)) s
+        go : (z : Bool) → σ .flag s a ≡ z → Needed (at-cell (effect layout (need s a) σ)) s
         go true e = rw (need-set s a σ e) (record { flags-current = before; flag-set = rw q e })
-        go false e = rw (need-own s a σ q e)
+        go false e = rw (need-own i s a σ q e)
             (record { flags-current = need-current s (at-cell σ) (opposite s (at-cell σ) before (k .flagged) (rw q e)); flag-set = refl })
 
     -- R
-    need-coherent : (σ : State) → Judged arrays p (declaration R s a ∷ ds) b → CoherentIn p b (declaration R s a ∷ ds) σ →
-        CoherentIn p b ds (effect arrays (need s a) σ)
-    need-coherent σ j k = go (own-or-other a)
+    need-coherent : c < cell-count layout → (σ : State) → Judged layout p (declaration R s a ∷ ds) b → CoherentIn p b (declaration R s a ∷ ds) σ →
+        CoherentIn p b ds (effect layout (need s a) σ)
+    need-coherent i σ j k = go (own-or-other a)
       where
-        go : (own ≡ a) ⊎ (eqb own a ≡ false) → CoherentIn p b ds (effect arrays (need s a) σ)
+        go : (own ≡ a) ⊎ (eqb own a ≡ false) → CoherentIn p b ds (effect layout (need s a) σ)
         go (inl q) =
-            let g = needed R σ k q in
+            let g = needed i R σ k q in
             let now = g .flags-current s (g .flag-set) in
-            made-coherent R (effect arrays (need s a) σ) q j (s, now) (g .flag-set)
+            made-coherent R (effect layout (need s a) σ) q j (s, now) (g .flag-set)
             (λ t f. inl (g .flags-current t f)) (λ r. now) (λ w. absurd (false≢true w))
-        go (inr e) = other-coherent R σ (effect arrays (need s a) σ) e (need-other s a σ e) k
+        go (inr e) = other-coherent R σ (effect layout (need s a) σ) e (need-other i s a σ e) k
 
     -- the need of an RW
-    need-first-coherent : (σ : State) → CoherentIn p b (declaration RW s a ∷ ds) σ → CoherentIn p b (declaration RW s a ∷ ds) (effect arrays (need s a) σ)
-    need-first-coherent σ k = go (own-or-other a)
+    need-first-coherent : c < cell-count layout → (σ : State) → CoherentIn p b (declaration RW s a ∷ ds) σ → CoherentIn p b (declaration RW s a ∷ ds) (effect layout (need s a) σ)
+    need-first-coherent i σ k = go (own-or-other a)
       where
-        go : (own ≡ a) ⊎ (eqb own a ≡ false) → CoherentIn p b (declaration RW s a ∷ ds) (effect arrays (need s a) σ)
+        go : (own ≡ a) ⊎ (eqb own a ≡ false) → CoherentIn p b (declaration RW s a ∷ ds) (effect layout (need s a) σ)
         go (inl q) =
             let u = undeclared RW q in
-            let g = needed RW σ k q in
+            let g = needed i RW σ k q in
             record {
               current = (s, g .flags-current s (g .flag-set));
               flagged = (s, g .flag-set);
@@ -205,32 +206,32 @@ module _ (arrays : Arrays) (c : ℕ) where
               readable = λ e. absurd (true≢false (sym u ∙ e));
               writable = λ e. absurd (true≢false (sym u ∙ e));
             }
-        go (inr e) = rw (need-other s a σ e) k
+        go (inr e) = rw (need-other i s a σ e) k
 
     -- W, or the mark of an RW
-    mark-coherent : (m : Mode) (σ : State) → Judged arrays p (declaration m s a ∷ ds) b →
-        (own ≡ a → Current (at-cell σ) s ⊎ (always-writes arrays s c b ≡ true)) → (own ≡ a → reads m ≡ true → Current (at-cell σ) s) →
-        CoherentIn p b (declaration m s a ∷ ds) σ → CoherentIn p b ds (effect arrays (mark s a) σ)
+    mark-coherent : (m : Mode) (σ : State) → Judged layout p (declaration m s a ∷ ds) b →
+        (own ≡ a → Current (at-cell σ) s ⊎ (always-writes layout s c b ≡ true)) → (own ≡ a → reads m ≡ true → Current (at-cell σ) s) →
+        CoherentIn p b (declaration m s a ∷ ds) σ → CoherentIn p b ds (effect layout (mark s a) σ)
     mark-coherent m σ j on-side r k = go (own-or-other a)
       where
-        flags : own ≡ a → (t : Side) → at-cell (effect arrays (mark s a) σ) .flag t ≡ is t s
+        flags : own ≡ a → (t : Side) → at-cell (effect layout (mark s a) σ) .flag t ≡ is t s
         flags q t = rw (eq-eqb own a q)
 
-        if-flagged : own ≡ a → (t : Side) → is t s ≡ true → Current (at-cell σ) t ⊎ (always-writes arrays t c b ≡ true)
+        if-flagged : own ≡ a → (t : Side) → is t s ≡ true → Current (at-cell σ) t ⊎ (always-writes layout t c b ≡ true)
         if-flagged q t e = rw (is-true t s e) (on-side q)
 
-        go : (own ≡ a) ⊎ (eqb own a ≡ false) → CoherentIn p b ds (effect arrays (mark s a) σ)
-        go (inl q) = made-coherent m (effect arrays (mark s a) σ) q j (k .current) (flags q s ∙ is-same s)
+        go : (own ≡ a) ⊎ (eqb own a ≡ false) → CoherentIn p b ds (effect layout (mark s a) σ)
+        go (inl q) = made-coherent m (effect layout (mark s a) σ) q j (k .current) (flags q s ∙ is-same s)
             (λ t f. if-flagged q t (sym (flags q t) ∙ f)) (r q) (λ w. flags q (other s) ∙ is-other s)
-        go (inr e) = other-coherent m σ (effect arrays (mark s a) σ) e (mark-other s a σ e) k
+        go (inr e) = other-coherent m σ (effect layout (mark s a) σ) e (mark-other s a σ e) k
 
   act-coherent : (p : Pass) (r : ℕ) (b : Block) (x : Action) (σ : State) → permits (p .declarations) x ≡ true → CoherentIn p (act r x b) [] σ →
-      CoherentIn p b [] (effect arrays x σ)
+      CoherentIn p b [] (effect layout x σ)
   act-coherent p r b (read s x) σ e k = k
-  act-coherent p r b (write s x) σ e k = go (within arrays x c) refl
+  act-coherent p r b (write s x) σ e k = go (within layout x c) refl
     where
-      go : (z : Bool) → within arrays x c ≡ z → CoherentIn p b [] (effect arrays (write s x) σ)
-      go true w = rw (write-own s x σ w) (write-coherent s (suc (σ .writes)) (rw (within-array arrays x c w) e) k)
+      go : (z : Bool) → within layout x c ≡ z → CoherentIn p b [] (effect layout (write s x) σ)
+      go true w = rw (write-own s x σ w) (write-coherent s (suc (σ .writes)) (rw (within-array layout x c w) e) k)
       go false w = rw (write-other s x σ w) (with-pending (λ t f. rw (w, and-false) at f) k)
   act-coherent p r b (copy s x) σ e k = absurd (false≢true e)
   act-coherent p r b (need s a) σ e k = absurd (false≢true e)
@@ -251,46 +252,46 @@ module _ (arrays : Arrays) (c : ℕ) where
       now t (inl e) = e
       now t (inr e) = absurd (false≢true e)
 
-  start-current : FlagsCurrent (at-cell (start arrays))
+  start-current : FlagsCurrent (at-cell (start layout))
   start-current host e = refl
   start-current card e = absurd (false≢true e)
 
-module _ (plan : DeclaredPlan) (cs : List Bool) (ok : Accepts plan) (c : ℕ) (inside : c < cells (plan .arrays)) where
-  abbrev arrays : Arrays
-  arrays = plan .arrays
+module _ (plan : DeclaredPlan) (cs : List Bool) (ok : Accepts plan) (c : ℕ) (inside : c < cell-count (plan .layout)) where
+  abbrev layout : Layout
+  layout = plan .layout
 
   -- where W is declared, what the pass has not written is pending
-  pending : {p : Pass} {s : Side} {a : ℕ} {ds : List Declaration} {b : Block} → Judged arrays p (declaration W s a ∷ ds) b → array-of arrays c ≡ a →
-      always-writes arrays s c (p .body) ≡ true
-  pending {p} {s} j q = always-written arrays s c (p .body) .1 (j .rules .0 .written refl c inside q)
+  pending : {p : Pass} {s : Side} {a : ℕ} {ds : List Declaration} {b : Block} → Judged layout p (declaration W s a ∷ ds) b → array-of layout c ≡ a →
+      always-writes layout s c (p .body) ≡ true
+  pending {p} {s} j q = always-written layout s c (p .body) .1 (j .rules .0 .written refl c (rw q at (own-span layout c inside)))
 
   pub coherent : {k : Stage} {ch : List Bool} {n : Progress} → Stages plan cs k ch n →
-      CoherentIn (plan .arrays) c (pass-at k) (body-left k) (ahead k) (n .state)
+      CoherentIn (plan .layout) c (pass-at k) (body-left k) (ahead k) (n .state)
   coherent begins = record {
     current = (host, refl);
     flagged = (host, refl);
-    set-flags = λ t f. inl (start-current arrays c t f);
-    flags-current = λ u. start-current arrays c;
+    set-flags = λ t f. inl (start-current layout c t f);
+    flags-current = λ u. start-current layout c;
     readable = λ u s e. absurd (false≢true e);
     writable = λ u s e. absurd (false≢true e);
   }
-  coherent (calls {p = p} {b} {n = n} h) = call-coherent arrays c p (pass-of (plan .passes) b) (n .state) (coherent h)
+  coherent (calls {p = p} {b} {n = n} h) = call-coherent layout c p (pass-of (plan .passes) b) (n .state) (coherent h)
   coherent (enters h) = coherent h
-  coherent (needs {p = p} {s} {a} {ds} {n = n} h) = need-coherent arrays c p (p .body) s a ds (n .state) (judged plan cs ok h) (coherent h)
+  coherent (needs {p = p} {s} {a} {ds} {n = n} h) = need-coherent layout c p (p .body) s a ds inside (n .state) (judged plan cs ok h) (coherent h)
   coherent (marks {p = p} {s} {a} {ds} {n = n} h) =
       let j = judged plan cs ok h in
-      mark-coherent arrays c p (p .body) s a ds W (n .state) j (λ q. inr (pending j q)) (λ q r. absurd (false≢true r)) (coherent h)
-  coherent (needs-first {p = p} {s} {a} {ds} {n = n} h) = need-first-coherent arrays c p (p .body) s a ds (n .state) (coherent h)
+      mark-coherent layout c p (p .body) s a ds W (n .state) j (λ q. inr (pending j q)) (λ q r. absurd (false≢true r)) (coherent h)
+  coherent (needs-first {p = p} {s} {a} {ds} {n = n} h) = need-first-coherent layout c p (p .body) s a ds inside (n .state) (coherent h)
   coherent (marks-then (needs-first {p = p} {s} {a} {ds} {n = n} h)) =
       let k = coherent h in
-      let σ = effect arrays (need s a) (n .state) in
-      let now : array-of arrays c ≡ a → Current (at-cell arrays c σ) s = λ q.
-      let g = needed arrays c p (p .body) s a ds RW (n .state) k q in
+      let σ = effect layout (need s a) (n .state) in
+      let now : array-of layout c ≡ a → Current (at-cell layout c σ) s = λ q.
+      let g = needed layout c p (p .body) s a ds inside RW (n .state) k q in
       g .flags-current s (g .flag-set) in
-      mark-coherent arrays c p (p .body) s a ds RW σ (judged plan cs ok h) (λ q. inl (now q)) (λ q r. now q)
-      (need-first-coherent arrays c p (p .body) s a ds (n .state) k)
-  coherent (acts {p = p} {r} {x} {b} {n = n} h) = act-coherent arrays c p r b x (n .state) (permitted-now x (judged plan cs ok h)) (coherent h)
-  coherent (branches {r = r} {x} {y} {b} {c = z} h) = with-pending (λ t e. always-branch arrays t c r z x y b e) (coherent h)
-  coherent (loops {r = r} {x} {b} {c = z} h) = with-pending (λ t e. always-loop arrays t c r z x b e) (coherent h)
+      mark-coherent layout c p (p .body) s a ds RW σ (judged plan cs ok h) (λ q. inl (now q)) (λ q r. now q)
+      (need-first-coherent layout c p (p .body) s a ds inside (n .state) k)
+  coherent (acts {p = p} {r} {x} {b} {n = n} h) = act-coherent layout c p r b x (n .state) (permitted-now x (judged plan cs ok h)) (coherent h)
+  coherent (branches {r = r} {x} {y} {b} {c = z} h) = with-pending (λ t e. always-branch layout t c r z x y b e) (coherent h)
+  coherent (loops {r = r} {x} {b} {c = z} h) = with-pending (λ t e. always-loop layout t c r z x b e) (coherent h)
   coherent (branches0 h) = coherent h
   coherent (loops0 h) = coherent h

@@ -7,7 +7,7 @@ use mathlib.Core.Bool.{Bool, true, false, not, _&&_, _||_, true≢false}
 use lib.Dec.{eqb}
 use borrow.Author.Tests.{eqb-true, eq-eqb, not-true}
 use Rattle.model.specs.Lists.{any, All}
-use Rattle.model.specs.Sides.{Side, is, Arrays}
+use Rattle.model.specs.Sides.{Side, is, Layout}
 use Rattle.model.specs.Judging.{Mode, W, Declaration, Pass, pass-of, declared-once, declares, Written, Rules}
 use Rattle.model.proofs.Booleans.{or-out, or-left, or-right, and-out, is-true, any-append}
 
@@ -52,16 +52,16 @@ sole (x ∷ before) d ds o f s e = go (sole before d ds (once-rest x (before ++ 
         absurd (true≢false (sym (again q) ∙ once-first x (before ++ (d ∷ ds)) o))
     go ih (inr g) = ih g
 
-module _ (arrays : Arrays) where
+module _ (layout : Layout) where
   -- what the rules for pass p say of its declaration d
   pub record Rule (p : Pass) (d : Declaration) : Type 0 where
-    pub written : d .mode ≡ W → Written arrays (p .body) d
+    pub written : d .mode ≡ W → Written layout (p .body) d
     pub sole : (f : Mode → Bool) (s : Side) → declares f s (d .array) (p .declarations) ≡ true → (f (d .mode) ≡ true) × (d .side ≡ s)
 
-  pub each-rule : (p : Pass) → Rules arrays p → All (Rule p) (p .declarations)
+  pub each-rule : (p : Pass) → Rules layout p → All (Rule p) (p .declarations)
   each-rule p rules = from [] (p .declarations) refl (rules .written)
     where
-      from : (before ds : List Declaration) → p .declarations ≡ before ++ ds → All (λ (d : Declaration). d .mode ≡ W → Written arrays (p .body) d) ds →
+      from : (before ds : List Declaration) → p .declarations ≡ before ++ ds → All (λ (d : Declaration). d .mode ≡ W → Written layout (p .body) d) ds →
           All (Rule p) ds
       from before [] e w = tt
       from before (d ∷ ds) e w = (
@@ -73,7 +73,7 @@ module _ (arrays : Arrays) where
       )
 
   -- the rules hold of whatever body 0 calls
-  pub rules-of : (passes : List Pass) → All (Rules arrays) passes → (b : ℕ) → Rules arrays (pass-of passes b)
+  pub rules-of : (passes : List Pass) → All (Rules layout) passes → (b : ℕ) → Rules layout (pass-of passes b)
   rules-of [] a b = record { once = refl; permitted = refl; written = tt }
   rules-of (p ∷ ps) a zero = record { once = refl; permitted = refl; written = tt }
   rules-of (p ∷ ps) a (suc zero) = a .0

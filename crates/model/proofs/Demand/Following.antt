@@ -8,15 +8,16 @@ use mathlib.Core.Bool.{Bool, true, false, cond, false≢true}
 use native.Mathlib.Omega.{arith}
 use lib.Dec.{eqb}
 use borrow.Author.Tests.{eq-eqb}
-use Rattle.model.specs.Sides.{Side, other, Arrays, cells, array-of, Cells, within}
+use Rattle.model.specs.Sides.{Side, other, Layout, cell-count, Cells, within}
 use Rattle.model.specs.Effects.{Action, read, write, copy, need, mark, State, current, met, effect}
 use Rattle.model.specs.Blocks.{Block, act, branch, loop, _then_}
 use Rattle.model.specs.Runs.{Event, Config, Ending, finished, stopped, out-of-choices, Step, next, ends, carry, lowest-unmet, stop-or, step, here, onward, Run, Ends}
 use Rattle.model.specs.Judging.{Mode, R, W, RW, Declaration, Pass, Body0, DeclaredPlan, no-pass, pass-of, permits, Accepts}
 use Rattle.model.specs.Expanding.{given, declared, expand, expansion}
 use Rattle.model.specs.Demand.{Made}
+use Rattle.model.specs.Inner.Holders.{array-of}
 use Rattle.model.proofs.Runs.{config, event}
-use Rattle.model.proofs.Numbering.{within-array}
+use Rattle.model.proofs.Numbering.{in-own, within-array}
 use Rattle.model.proofs.Unmet.{none-unmet}
 use Rattle.model.proofs.Demand.Blocks.{_before_, then-assoc, expand-before}
 use Rattle.model.proofs.Demand.Numbers.{unnumbered, unnumbered-same, unnumbered-config, unnumbered-step, step-unnumbered}
@@ -24,34 +25,34 @@ use Rattle.model.proofs.Demand.Stages.{declaration, Stage, in-body, dec
 use Rattle.model.proofs.Demand.Coherence.{Current, opposite, at-cell, own-or-other, CoherentIn, undeclared, coherent}
 
 -- what a record of an accepted plan needs of a cell is there
-module _ (arrays : Arrays) (c : ℕ) (σ : State) where
-  is-current : (s : Side) → Current (at-cell arrays c σ) s → current σ s c ≡ true
+module _ (layout : Layout) (c : ℕ) (σ : State) where
+  is-current : (s : Side) → Current (at-cell layout c σ) s → current σ s c ≡ true
   is-current s e = rw e (eq-eqb (σ .latest c) (σ .latest c) refl)
 
-  read-met : (p : Pass) (b : Block) (s : Side) (x : Cells) → permits (p .declarations) (read s x) ≡ true → CoherentIn arrays c p b [] σ →
-      met arrays (read s x) σ c ≡ true
-  read-met p b s x e k = go (within arrays x c) refl
+  read-met : (p : Pass) (b : Block) (s : Side) (x : Cells) → permits (p .declarations) (read s x) ≡ true → CoherentIn layout c p b [] σ →
+      met layout (read s x) σ c ≡ true
+  read-met p b s x e k = go (within layout x c) refl
     where
-      go : (z : Bool) → within arrays x c ≡ z → met arrays (read s x) σ c ≡ true
-      go true w = rw w (is-current s (k .readable refl s (rw (within-array arrays x c w) e) .0))
+      go : (z : Bool) → within layout x c ≡ z → met layout (read s x) σ c ≡ true
+      go true w = rw w (is-current s (k .readable refl s (rw (within-array layout x c w) e) .0))
       go false w = rw w
 
-  act-met : (p : Pass) (b : Block) (x : Action) → permits (p .declarations) x ≡ true → CoherentIn arrays c p b [] σ → met arrays x σ c ≡ true
+  act-met : (p : Pass) (b : Block) (x : Action) → permits (p .declarations) x ≡ true → CoherentIn layout c p b [] σ → met layout x σ c ≡ true
   act-met p b (read s x) e k = read-met p b s x e k
   act-met p b (write s x) e k = refl
   act-met p b (copy s x) e k = absurd (false≢true e)
   act-met p b (need s a) e k = absurd (false≢true e)
   act-met p b (mark s a) e k = refl
 
-  need-met : (p : Pass) (b : Block) (m : Mode) (s : Side) (a : ℕ) (ds : List Declaration) → CoherentIn arrays c p b (declaration m s a ∷ ds) σ →
-      met arrays (need s a) σ c ≡ true
-  need-met p b m s a ds k = go (σ .flag s a) refl (own-or-other arrays c a)
+  need-met : c < cell-count layout → (p : Pass) (b : Block) (m : Mode) (s : Side) (a : ℕ) (ds : List Declaration) → CoherentIn layout c p b (declaration m s a ∷ ds) σ →
+      met layout (need s a) σ c ≡ true
+  need-met i p b m s a ds k = go (σ .flag s a) refl (own-or-other layout c a)
     where
-      go : (z : Bool) → σ .flag s a ≡ z → (array-of arrays c ≡ a) ⊎ (eqb (array-of arrays c) a ≡ false) → met arrays (need s a) σ c ≡ true
+      go : (z : Bool) → σ .flag s a ≡ z → (array-of layout c ≡ a) ⊎ (eqb (array-of layout c) a ≡ false) → met layout (need s a) σ c ≡ true
       go true e o = rw e
-      go false e (inl q) = rw (e, eq-eqb (array-of arrays c) a q)
-          (is-current (other s) (opposite s (at-cell arrays c σ) (k .flags-current (undeclared arrays c p b s a ds m q)) (k .flagged) (rw q e)))
-      go false e (inr q) = rw (e, q)
+      go false e (inl q) = rw (e, in-own layout c i a, eq-eqb (array-of layout c) a q)
+          (is-current (other s) (opposite s (at-cell layout c σ) (k .flags-current (undeclared layout c p b s a ds m q)) (k .flagged) (rw q e)))
+      go false e (inr q) = rw (e, in-own layout c i a, q)
 
 module _ (plan : DeclaredPlan) (cs : List Bool) where
   -- a configuration without record numbers that stands at a stage
@@ -78,25 +79,25 @@ module _ (plan : DeclaredPlan) (cs : List Bool) where
   Continues ch l (ends (out-of-choices r)) = Unit {0}
 
   abbrev ContinuesFrom : Block → List Bool → Progress → Type 0
-  ContinuesFrom b ch n = Continues ch (n .history) (unnumbered-step (step (plan .arrays) (config b ch (n .state) (n .history))))
+  ContinuesFrom b ch n = Continues ch (n .history) (unnumbered-step (step (plan .layout) (config b ch (n .state) (n .history))))
 
   at-stage : {k : Stage} {n : Progress} (b : Block) (ch : List Bool) → b ≡ left-of (plan .passes) k → Stages plan cs k ch n →
       Follows (config (unnumbered b) ch (n .state) (n .history))
   at-stage {k} {n} b ch e h = record { stage = k; made = n .made; called = n .called; left = ap unnumbered e; stages = h }
 
   act-next : (r : ℕ) (x : Action) (b : Block) (ch : List Bool) (n : Progress) →
-      ((c : ℕ) → c < cells (plan .arrays) → met (plan .arrays) x (n .state) c ≡ true) →
-      Follows (config (unnumbered b) ch (effect (plan .arrays) x (n .state)) (event x (n .state) ∷ n .history)) → ContinuesFrom (act r x b) ch n
-  act-next r x b ch n f k = go (lowest-unmet (plan .arrays) x (n .state)) (none-unmet (plan .arrays) x (n .state) f)
+      ((c : ℕ) → c < cell-count (plan .layout) → met (plan .layout) x (n .state) c ≡ true) →
+      Follows (config (unnumbered b) ch (effect (plan .layout) x (n .state)) (event x (n .state) ∷ n .history)) → ContinuesFrom (act r x b) ch n
+  act-next r x b ch n f k = go (lowest-unmet (plan .layout) x (n .state)) (none-unmet (plan .layout) x (n .state) f)
     where
       go : (o : Option ℕ) → o ≡ none →
-          Continues ch (n .history) (unnumbered-step (stop-or r o (carry (plan .arrays) (config (act r x b) ch (n .state) (n .history)))))
+          Continues ch (n .history) (unnumbered-step (stop-or r o (carry (plan .layout) (config (act r x b) ch (n .state) (n .history)))))
       go none u = k
       go (some c) u = let z : _≡_ {A = ℕ} 0 1 = cc in absurd (omega arith)
 
   module _ (ok : Accepts plan) where
-    abbrev arrays : Arrays
-    arrays = plan .arrays
+    abbrev layout : Layout
+    layout = plan .layout
 
     abbrev passes : List Pass
     passes = plan .passes
@@ -115,9 +116,9 @@ module _ (plan : DeclaredPlan) (cs : List Bool) where
         a : ℕ
         a = d .array
 
-        needed : (m : Mode) → Stages plan cs (declaring p (declaration m s a ∷ ds) t) ch n → (c : ℕ) → c < cells arrays →
-            met arrays (need s a) (n .state) c ≡ true
-        needed m h c i = need-met arrays c (n .state) p (p .body) m s a ds (coherent plan cs ok c i h)
+        needed : (m : Mode) → Stages plan cs (declaring p (declaration m s a ∷ ds) t) ch n → (c : ℕ) → c < cell-count layout →
+            met layout (need s a) (n .state) c ≡ true
+        needed m h c i = need-met layout c (n .state) i p (p .body) m s a ds (coherent plan cs ok c i h)
 
         go : (m : Mode) → Stages plan cs (declaring p (declaration m s a ∷ ds) t) ch n → ContinuesFrom (given m s a rest) ch n
         go R h = act-next 0 (need s a) rest ch n (needed R h) (at-stage rest ch refl (needs h))
@@ -129,7 +130,7 @@ module _ (plan : DeclaredPlan) (cs : List Bool) where
         Stages plan cs (in-body p b t) ch n → ContinuesFrom (b then expand passes t) ch n
     body-next Block.done t p ch n more h = more h
     body-next (act r x b) t p ch n more h = act-next r x (b then expand passes t) ch n
-        (λ c i. act-met arrays c (n .state) p (act r x b) x (permitted-now x (judged plan cs ok h)) (coherent plan cs ok c i h))
+        (λ c i. act-met layout c (n .state) p (act r x b) x (permitted-now x (judged plan cs ok h)) (coherent plan cs ok c i h))
         (at-stage (b then expand passes t) ch refl (acts h))
     body-next (branch r x y b) t p [] n more h = tt
     body-next (branch r x y b) t p (c ∷ ch) n more h =
@@ -166,14 +167,14 @@ module _ (plan : DeclaredPlan) (cs : List Bool) where
         let rest = declared ds (p .body then expand passes t) in
         act-next 0 (mark s a) rest ch n (λ c i. refl) (at-stage rest ch refl (marks-then h))
 
-    continue : (k : Config) → Follows (unnumbered-config k) → Continues (k .choices) (k .history) (unnumbered-step (step arrays k))
+    continue : (k : Config) → Follows (unnumbered-config k) → Continues (k .choices) (k .history) (unnumbered-step (step layout k))
     continue k f = subst (Continues (k .choices) (k .history)) same (stage-next (f .stage) (k .choices) _ (f .stages))
       where
-        same : unnumbered-step (step arrays (config (left-of passes (f .stage)) (k .choices) (k .state) (k .history))) ≡ unnumbered-step (step arrays k)
+        same : unnumbered-step (step layout (config (left-of passes (f .stage)) (k .choices) (k .state) (k .history))) ≡ unnumbered-step (step layout k)
         same =
-            sym (step-unnumbered arrays (k .state) (k .history) (left-of passes (f .stage)) (k .choices))
-            ∙ ap (λ b. step arrays (config b (k .choices) (k .state) (k .history))) (sym (f .left))
-            ∙ step-unnumbered arrays (k .state) (k .history) (k .left) (k .choices)
+            sym (step-unnumbered layout (k .state) (k .history) (left-of passes (f .stage)) (k .choices))
+            ∙ ap (λ b. step layout (config b (k .choices) (k .state) (k .history))) (sym (f .left))
+            ∙ step-unnumbered layout (k .state) (k .history) (k .left) (k .choices)
 
     pub follows : {k : Config} → Run (expansion plan) cs k → Follows (unnumbered-config k)
     follows here = record {

@@ -6,7 +6,7 @@ use mathlib.Core.Bool.{Bool, true, false, cond, not, _&&_, _||_, or-true, or-fal
 use lib.Dec.{eqb}
 use borrow.Author.Tests.{eqb-true}
 use Rattle.model.specs.Lists.{any}
-use Rattle.model.specs.Sides.{Side, host, other, is, Arrays}
+use Rattle.model.specs.Sides.{Side, host, other, is, Layout}
 use Rattle.model.specs.Effects.{Action, read, write, copy, need, mark, State, effect}
 use Rattle.model.specs.Blocks.{Block}
 use Rattle.model.specs.Runs.{copies}
@@ -54,9 +54,9 @@ module _ (a : ℕ) where
   abbrev Flagged : State → Interval → Type 0
   Flagged σ i = (t : Side) → σ .flag t a ≡ flags i t
 
-  need-flags : (arrays : Arrays) (s : Side) (b : ℕ) (σ : State) (i : Interval) → Flagged σ i →
-      Flagged (effect arrays (need s b) σ) (cond (eqb b a) (extended R s i) i)
-  need-flags arrays s b σ i f t = go (eqb b a) refl (σ .flag s b) refl
+  need-flags : (layout : Layout) (s : Side) (b : ℕ) (σ : State) (i : Interval) → Flagged σ i →
+      Flagged (effect layout (need s b) σ) (cond (eqb b a) (extended R s i) i)
+  need-flags layout s b σ i f t = go (eqb b a) refl (σ .flag s b) refl
     where
       set : (x y z : Bool) → (x || y) ≡ true → (z || y) ≡ (z || (not x || y))
       set true y z e = refl
@@ -66,15 +66,15 @@ module _ (a : ℕ) where
       clear true y z e = absurd (true≢false e)
       clear false y z e = sym (or-true z)
 
-      go : (o : Bool) → eqb b a ≡ o → (g : Bool) → σ .flag s b ≡ g → effect arrays (need s b) σ .flag t a ≡ flags (cond (eqb b a) (extended R s i) i) t
+      go : (o : Bool) → eqb b a ≡ o → (g : Bool) → σ .flag s b ≡ g → effect layout (need s b) σ .flag t a ≡ flags (cond (eqb b a) (extended R s i) i) t
       go true q true e = rw (q, e, f t, is-not s (i .writer)) (set (is s (i .writer)) (i .shared) (is t (i .writer)) (sym (f s) ∙ (rw (eqb-true b a q) at e)))
       go true q false e = rw (q, e, eqb-swap a b, q, is-not s (i .writer)) (clear (is s (i .writer)) (i .shared) (is t (i .writer)) (sym (f s) ∙ (rw (eqb-true b a q) at e)))
       go false q true e = rw (q, e) (f t)
       go false q false e = rw (q, e, eqb-swap a b, q) (f t)
 
-  mark-flags : (arrays : Arrays) (s : Side) (b : ℕ) (σ : State) (i : Interval) → (eqb b a ≡ false → Flagged σ i) →
-      Flagged (effect arrays (mark s b) σ) (cond (eqb b a) (interval s false) i)
-  mark-flags arrays s b σ i f t = rw (eqb-swap a b) (go (eqb b a) refl)
+  mark-flags : (layout : Layout) (s : Side) (b : ℕ) (σ : State) (i : Interval) → (eqb b a ≡ false → Flagged σ i) →
+      Flagged (effect layout (mark s b) σ) (cond (eqb b a) (interval s false) i)
+  mark-flags layout s b σ i f t = rw (eqb-swap a b) (go (eqb b a) refl)
     where
       go : (o : Bool) → eqb b a ≡ o → cond (eqb b a) (is t s) (σ .flag t a) ≡ flags (cond (eqb b a) (interval s false) i) t
       go true q = rw (q, or-false (is t s))
@@ -90,13 +90,13 @@ module _ (a : ℕ) where
   CountedAt (declaring p ds t) n = Counted (n .state) (n .made)
   CountedAt (marking p s b m ds t) n = Unit {0}
 
-  act-counted : (arrays : Arrays) (ds : List Declaration) (x : Action) (σ : State) (made : List Made) → permits ds x ≡ true → Counted σ made →
-      Counted (effect arrays x σ) made
-  act-counted arrays ds (read s x) σ l e k = k
-  act-counted arrays ds (write s x) σ l e k = record { flagged = k .flagged; exact = k .exact }
-  act-counted arrays ds (copy s x) σ l e k = absurd (false≢true e)
-  act-counted arrays ds (need s b) σ l e k = absurd (false≢true e)
-  act-counted arrays ds (mark s b) σ l e k = absurd (false≢true e)
+  act-counted : (layout : Layout) (ds : List Declaration) (x : Action) (σ : State) (made : List Made) → permits ds x ≡ true → Counted σ made →
+      Counted (effect layout x σ) made
+  act-counted layout ds (read s x) σ l e k = k
+  act-counted layout ds (write s x) σ l e k = record { flagged = k .flagged; exact = k .exact }
+  act-counted layout ds (copy s x) σ l e k = absurd (false≢true e)
+  act-counted layout ds (need s b) σ l e k = absurd (false≢true e)
+  act-counted layout ds (mark s b) σ l e k = absurd (false≢true e)
 
   copies-exactly : (s : Side) (b : ℕ) (σ : State) (i : Interval) → Flagged σ i → eqb b a ≡ true → copies (need s b) σ ≡ not (flags i s)
   copies-exactly s b σ i f q = rw (eqb-true b a q) (ap not (f s))
@@ -107,11 +107,11 @@ module _ (a : ℕ) where
     counted (calls h) = counted h
     counted (enters h) = counted h
     counted (needs {s = s} {a = b} {n = n} h) = let k = counted h in record {
-      flagged = need-flags (plan .arrays) s b (n .state) (interval-of (n .made)) (k .flagged);
+      flagged = need-flags (plan .layout) s b (n .state) (interval-of (n .made)) (k .flagged);
       exact = (copies-exactly s b (n .state) (interval-of (n .made)) (k .flagged), k .exact);
     }
     counted (marks {s = s} {a = b} {n = n} h) = let k = counted h in record {
-      flagged = mark-flags (plan .arrays) s b (n .state) (interval-of (n .made)) (λ q. k .flagged);
+      flagged = mark-flags (plan .layout) s b (n .state) (interval-of (n .made)) (λ q. k .flagged);
       exact = (λ q. refl, k .exact);
     }
     counted (needs-first h) = tt
@@ -119,10 +119,10 @@ module _ (a : ℕ) where
         let k = counted h in
         let i = interval-of (n .made) in
         record {
-          flagged = mark-flags (plan .arrays) s b (effect (plan .arrays) (need s b) (n .state)) i (λ q. rw q at (need-flags (plan .arrays) s b (n .state) i (k .flagged)));
+          flagged = mark-flags (plan .layout) s b (effect (plan .layout) (need s b) (n .state)) i (λ q. rw q at (need-flags (plan .layout) s b (n .state) i (k .flagged)));
           exact = (copies-exactly s b (n .state) i (k .flagged), k .exact);
         }
-    counted (acts {p = p} {x = x} {n = n} h) = act-counted (plan .arrays) (p .declarations) x (n .state) (n .made) (permitted-now x (judged plan cs ok h)) (counted h)
+    counted (acts {p = p} {x = x} {n = n} h) = act-counted (plan .layout) (p .declarations) x (n .state) (n .made) (permitted-now x (judged plan cs ok h)) (counted h)
     counted (branches h) = counted h
     counted (loops h) = counted h
     counted (branches0 h) = counted h

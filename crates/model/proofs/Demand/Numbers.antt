@@ -4,7 +4,7 @@ use mathlib.Core.Path.{_≡_, refl, ap, sym}
 use mathlib.Core.List.{List, [], _∷_}
 use mathlib.Core.Bool.{Bool, true, false}
 use mathlib.Core.Option.{Option, none, some}
-use Rattle.model.specs.Sides.{Arrays}
+use Rattle.model.specs.Sides.{Layout}
 use Rattle.model.specs.Effects.{State}
 use Rattle.model.specs.Blocks.{Block, done, act, branch, loop, _then_, numbered}
 use Rattle.model.specs.Runs.{Event, Config, Ending, finished, stopped, out-of-choices, Step, next, ends, carry, lowest-unmet, stop-or, step}
@@ -41,16 +41,16 @@ abbrev pub unnumbered-step : Step → Step
 unnumbered-step (next k) = next (unnumbered-config k)
 unnumbered-step (ends e) = ends (unnumbered-ending e)
 
-module _ (arrays : Arrays) (σ : State) (l : List Event) where
+module _ (layout : Layout) (σ : State) (l : List Event) where
   abbrev to : List Bool → Block → Step
   to cs b = next (config b cs σ l)
 
-  pub step-unnumbered : (b : Block) (cs : List Bool) → step arrays (config (unnumbered b) cs σ l) ≡ unnumbered-step (step arrays (config b cs σ l))
+  pub step-unnumbered : (b : Block) (cs : List Bool) → step layout (config (unnumbered b) cs σ l) ≡ unnumbered-step (step layout (config b cs σ l))
   step-unnumbered done cs = refl
-  step-unnumbered (act r x b) cs = go (lowest-unmet arrays x σ)
+  step-unnumbered (act r x b) cs = go (lowest-unmet layout x σ)
     where
       go : (o : Option ℕ) →
-          stop-or 0 o (carry arrays (config (act 0 x (unnumbered b)) cs σ l)) ≡ unnumbered-step (stop-or r o (carry arrays (config (act r x b) cs σ l)))
+          stop-or 0 o (carry layout (config (act 0 x (unnumbered b)) cs σ l)) ≡ unnumbered-step (stop-or r o (carry layout (config (act r x b) cs σ l)))
       go none = refl
       go (some c) = refl
   step-unnumbered (branch r x y b) [] = refl

@@ -5,7 +5,7 @@ use mathlib.Core.Path.{_≡_, refl, ap, _∙_}
 use mathlib.Core.List.{List, [], _∷_, map, reverseAux as onto}
 use mathlib.Core.Bool.{Bool, true, false, cond, false≢true}
 use Rattle.model.specs.Lists.{All}
-use Rattle.model.specs.Sides.{Side, Arrays}
+use Rattle.model.specs.Sides.{Side, Layout}
 use Rattle.model.specs.Effects.{Action, read, write, copy, need, mark, State, start, effect}
 use Rattle.model.specs.Blocks.{Block, act, branch, loop, _then_}
 use Rattle.model.specs.Runs.{Event, copies}
@@ -70,10 +70,10 @@ calling p n = record { state = n .state; history = n .history; made = n .made; c
 
 module _ (plan : DeclaredPlan) (cs : List Bool) where
   abbrev executing : Action → Progress → Progress
-  executing x n = record { state = effect (plan .arrays) x (n .state); history = event x (n .state) ∷ n .history; made = n .made; called = n .called }
+  executing x n = record { state = effect (plan .layout) x (n .state); history = event x (n .state) ∷ n .history; made = n .made; called = n .called }
 
   abbrev first : Progress
-  first = record { state = start (plan .arrays); history = []; made = []; called = [] }
+  first = record { state = start (plan .layout); history = []; made = []; called = [] }
 
   -- the stages that the run on the choices cs goes through, each with the choices left
   pub data Stages : Stage → List Bool → Progress → Type 0 where
@@ -168,26 +168,26 @@ module _ (plan : DeclaredPlan) (cs : List Bool) where
   declares-all (loops0 h) = declares-all h
 
 -- what the judge accepts holds of what is ahead in pass p: of the declarations ds and the block b
-pub record Judged (arrays : Arrays) (p : Pass) (ds : List Declaration) (b : Block) : Type 0 where
-  pub rules : All (Rule arrays p) ds
+pub record Judged (layout : Layout) (p : Pass) (ds : List Declaration) (b : Block) : Type 0 where
+  pub rules : All (Rule layout p) ds
   pub once : declared-once ds ≡ true
   pub permitted : every (permits (p .declarations)) b ≡ true
 
-judged-rest : {arrays : Arrays} {p : Pass} {d : Declaration} {ds : List Declaration} {b : Block} → Judged arrays p (d ∷ ds) b → Judged arrays p ds b
+judged-rest : {layout : Layout} {p : Pass} {d : Declaration} {ds : List Declaration} {b : Block} → Judged layout p (d ∷ ds) b → Judged layout p ds b
 judged-rest {d = d} {ds} k = record { rules = k .rules .1; once = once-rest d ds (k .once); permitted = k .permitted }
 
 -- the record at hand
-pub permitted-now : {arrays : Arrays} {p : Pass} {ds : List Declaration} {r : ℕ} {b : Block} (x : Action) → Judged arrays p ds (act r x b) →
+pub permitted-now : {layout : Layout} {p : Pass} {ds : List Declaration} {r : ℕ} {b : Block} (x : Action) → Judged layout p ds (act r x b) →
     permits (p .declarations) x ≡ true
 permitted-now {p = p} {b = b} x k = and-out (permits (p .declarations) x) (every (permits (p .declarations)) b) (k .permitted) .0
 
 module _ (plan : DeclaredPlan) (cs : List Bool) (ok : Accepts plan) where
-  pub judged : {k : Stage} {ch : List Bool} {n : Progress} → Stages plan cs k ch n → Judged (plan .arrays) (pass-at k) (ahead k) (body-left k)
+  pub judged : {k : Stage} {ch : List Bool} {n : Progress} → Stages plan cs k ch n → Judged (plan .layout) (pass-at k) (ahead k) (body-left k)
   judged begins = record { rules = tt; once = refl; permitted = refl }
   judged (calls {b = b} h) =
       let p = pass-of (plan .passes) b in
-      let g = rules-of (plan .arrays) (plan .passes) ok b in
-      record { rules = each-rule (plan .arrays) p g; once = g .once; permitted = g .permitted }
+      let g = rules-of (plan .layout) (plan .passes) ok b in
+      record { rules = each-rule (plan .layout) p g; once = g .once; permitted = g .permitted }
   judged (enters h) = judged h
   judged (needs h) = judged-rest (judged h)
   judged (marks h) = judged-rest (judged h)

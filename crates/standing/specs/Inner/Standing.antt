@@ -14,7 +14,7 @@ use Rattle.model.specs.Blocks.{Block}
 use Rattle.model.specs.Runs.{Config, Ending, Step, finished, stopped, out-of-choices, step, Run, tally}
 use Rattle.model.specs.Verdicts.{stop}
 use Rattle.reading.specs.declared.Fields.{Fields}
-use Rattle.reading.specs.Bytes.{arrays-of}
+use Rattle.reading.specs.Bytes.{layout-of}
 use Rattle.format.specs.Plans.{plan-of}
 use Rattle.format.specs.Inner.Walks.{Plain, Starts}
 use Rattle.acts.specs.declared.Stored.{Stored}
@@ -96,10 +96,10 @@ pub record Stands (f choices : List ℕ) (m : Runner) (own others latest : List 
   pub left : k .left ≡ left-of f (m .place)
   pub used : m .place .used ≤ length choices
   pub choices-left : k .choices ≡ choices-of (drop (m .place .used) choices)
-  pub holds : Holds (arrays-of f) host (stored-with m t) own others latest (k .state) (k .history)
+  pub holds : Holds (layout-of f) host (stored-with m t) own others latest (k .state) (k .history)
   -- what bounds the stamps and the tally
   pub few : length (k .history) + weight (m .place) ≤ (m .place .used + 1) * heavy
-  pub few-moved : tally (arrays-of f) (k .history) .moved ≤ length (k .history) * 4096
+  pub few-moved : tally (layout-of f) (k .history) .moved ≤ length (k .history) * 4096
 
 -- the number of the record that comes next
 abbrev pub next-record : Block → ℕ
@@ -122,7 +122,7 @@ StepsAs f choices k m own others latest t (Step.ends e) = (m .running ≡ false)
 -- one call of `step` is one step of the definition, from whatever configuration the machine, the memories and the tally held
 abbrev pub Steps : List ℕ → List ℕ → Runner → List ℕ → List ℕ → List ℕ → Tally → Runner → List ℕ → List ℕ → List ℕ → Tally → Type 0
 Steps f choices m own others latest t m′ own′ others′ latest′ t′ =
-    (k : Config) → Stands f choices m own others latest t k → StepsAs f choices k m′ own′ others′ latest′ t′ (step (arrays-of f) k)
+    (k : Config) → Stands f choices m own others latest t k → StepsAs f choices k m′ own′ others′ latest′ t′ (step (layout-of f) k)
 
 -- some configuration is held
 pub record Stood (f choices : List ℕ) (m : Runner) (own others latest : List ℕ) (t : Tally) : Type 0 where
@@ -132,7 +132,7 @@ pub record Stood (f choices : List ℕ) (m : Runner) (own others latest : List �
 -- the run ends at configuration k, as the verdict says
 pub record Over (f : List ℕ) (k : Config) (v : Verdict) : Type 0 where
   pub ending : Ending
-  pub last : step (arrays-of f) k ≡ Step.ends ending
+  pub last : step (layout-of f) k ≡ Step.ends ending
   pub says : v ≡ said-of ending
 
 -- the run goes on, or it has ended

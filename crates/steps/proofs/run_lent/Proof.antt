@@ -42,8 +42,8 @@ use denote.Triple.Spec.{Meets, tripleOf}
 use denote.Triple.Table.{entered, cited}
 use denote.Triple.Walked.{says, needs, Stays, stay-dropped, stay-ref, stay-slice, walkOf, AllGo, goes-dropped, goes-ref, goes-slice, Walks, ends-at, walked, walk-meets}
 use denote.Exit.{yes}
-use Rattle.model.specs.Sides.{cells}
-use Rattle.reading.specs.Bytes.{arrays-of}
+use Rattle.model.specs.Sides.{cell-count}
+use Rattle.reading.specs.Bytes.{layout-of}
 use Rattle.memories.specs.Inner.Ranges.{Same}
 use Rattle.memories.proofs.Cells.{same-all, same-twice}
 use Rattle.standing.specs.Inner.Standing.{runner, measure as left, Stood, Steps, Reaches}
@@ -120,7 +120,7 @@ module _ {M : Type 1} (𝓤 : URA M) (H : Heap 𝓤) (A : Atoms 𝓤) (W : Given
 
   -- what the loop has from turn to turn
   abbrev State : Type 0
-  State = (n : Machine) × (host₁ : List ℕ) × (card₁ : List ℕ) × (latest₁ : List ℕ) × (space₁ : List ℕ) × (h : Tally) × Is N.the-row n (mach n ∷ []) × (length host₁ ≡ length (host .now)) × (length card₁ ≡ length (card .now)) × (length latest₁ ≡ length (latest .now)) × (length space₁ ≡ length (space .now)) × (Reaches (plan .now) (choices .now) (runner n space₁) host₁ card₁ latest₁ h × Same (cells (arrays-of (plan .now))) (host .now) host₁ × Same (cells (arrays-of (plan .now))) (card .now) card₁ × Same (cells (arrays-of (plan .now))) (latest .now) latest₁)
+  State = (n : Machine) × (host₁ : List ℕ) × (card₁ : List ℕ) × (latest₁ : List ℕ) × (space₁ : List ℕ) × (h : Tally) × Is N.the-row n (mach n ∷ []) × (length host₁ ≡ length (host .now)) × (length card₁ ≡ length (card .now)) × (length latest₁ ≡ length (latest .now)) × (length space₁ ≡ length (space .now)) × (Reaches (plan .now) (choices .now) (runner n space₁) host₁ card₁ latest₁ h × Same (cell-count (layout-of (plan .now))) (host .now) host₁ × Same (cell-count (layout-of (plan .now))) (card .now) card₁ × Same (cell-count (layout-of (plan .now))) (latest .now) latest₁)
 
   abbrev Nearer : State → State → Type 0
   Nearer y x = left (length (choices .now)) (runner (y .0) (y .4)) < left (length (choices .now)) (runner (x .0) (x .4))
@@ -181,7 +181,7 @@ module _ {M : Type 1} (𝓤 : URA M) (H : Heap 𝓤) (A : Atoms 𝓤) (W : Given
 
     -- what `step_lent` says, at what it leaves
     abbrev Said : List ℕ → List ℕ → List ℕ → List ℕ → Tally → Machine → Type 0
-    Said host₂ card₂ latest₂ space₂ h₂ r = Steps (plan .now) (choices .now) (runner n space₁) host₁ card₁ latest₁ h (runner r space₂) host₂ card₂ latest₂ h₂ × (left (length (choices .now)) (runner r space₂) < left (length (choices .now)) (runner n space₁)) × Same (cells (arrays-of (plan .now))) host₁ host₂ × Same (cells (arrays-of (plan .now))) card₁ card₂ × Same (cells (arrays-of (plan .now))) latest₁ latest₂
+    Said host₂ card₂ latest₂ space₂ h₂ r = Steps (plan .now) (choices .now) (runner n space₁) host₁ card₁ latest₁ h (runner r space₂) host₂ card₂ latest₂ h₂ × (left (length (choices .now)) (runner r space₂) < left (length (choices .now)) (runner n space₁)) × Same (cell-count (layout-of (plan .now))) host₁ host₂ × Same (cell-count (layout-of (plan .now))) card₁ card₂ × Same (cell-count (layout-of (plan .now))) latest₁ latest₂
 
   abbrev slice₀ : Ty
   slice₀ = sliceTy (tyRef (named 0) imm (tyInt w8))

@@ -25,8 +25,8 @@ use denote.Triple.Entry.{onEntry}
 use denote.Triple.Spec.{Meets, tripleOf}
 use denote.Triple.Table.{entered, cited}
 use denote.Exit.{yes}
-use Rattle.model.specs.Sides.{cells}
-use Rattle.reading.specs.Bytes.{arrays-of}
+use Rattle.model.specs.Sides.{cell-count}
+use Rattle.reading.specs.Bytes.{layout-of}
 use Rattle.memories.specs.Inner.Ranges.{Same}
 use Rattle.standing.specs.Inner.Standing.{runner, Reaches}
 use Rattle.model.specs.declared.Tally.{Tally}
@@ -121,7 +121,7 @@ module _ {M : Type 1} (𝓤 : URA M) (H : Heap 𝓤) (A : Atoms 𝓤) (W : Given
     goes asked is = qed W (Lent ∷ []) ∵ says ! asked $ split ! $ move ! (1 ∷ []) $ split ! $ move ! (1 ∷ []) $ split ! $ move ! (1 ∷ []) $ split ! $ move ! (1 ∷ []) $ split ! $ move ! (1 ∷ []) $ split ! $ move ! (1 ∷ []) $ split ! $ move ! (1 ∷ []) $ split ! $ move ! (1 ∷ []) $ split ! $ move ! (1 ∷ []) $ split ! $ move ! (1 ∷ []) $ split ! $ move ! (1 ∷ []) $ split ! $ move ! (1 ∷ []) $ split ! $ nothing ! $ move ! (8 ∷ 0 ∷ []) $ join ! $ move ! (8 ∷ 0 ∷ []) $ join ! $ move ! (8 ∷ 0 ∷ []) $ join ! $ move ! (8 ∷ 0 ∷ []) $ join ! $ move ! (8 ∷ 0 ∷ []) $ join ! $ move ! (8 ∷ 0 ∷ []) $ join ! $ move ! (8 ∷ 0 ∷ []) $ join ! $ nothing ! $ move ! (3 ∷ 0 ∷ []) $ fjoin ! $ move ! (2 ∷ 0 ∷ []) $ fjoin ! $ move ! (2 ∷ 0 ∷ []) $ fjoin ! $ move ! (2 ∷ 0 ∷ []) $ fjoin ! $ move ! (2 ∷ 0 ∷ []) $ fjoin ! $ move ! (2 ∷ 0 ∷ []) $ fjoin ! $ move ! (2 ∷ 0 ∷ []) $ fjoin ! $ owned ! N.the-row (Is N.the-row) (LL.makes N.the-type N′.the-plain 𝓤 H A) m _ is $ fjoin ! $ move ! (1 ∷ 0 ∷ []) $ done !
 
   abbrev Said : List ℕ → List ℕ → List ℕ → List ℕ → Tally → Machine → Type 0
-  Said host₁ card₁ latest₁ space₁ h r = Reaches (plan .now) (choices .now) (runner r space₁) host₁ card₁ latest₁ h × (r .running ≡ false) × Same (cells (arrays-of (plan .now))) (host .now) host₁ × Same (cells (arrays-of (plan .now))) (card .now) card₁ × Same (cells (arrays-of (plan .now))) (latest .now) latest₁
+  Said host₁ card₁ latest₁ space₁ h r = Reaches (plan .now) (choices .now) (runner r space₁) host₁ card₁ latest₁ h × (r .running ≡ false) × Same (cell-count (layout-of (plan .now))) (host .now) host₁ × Same (cell-count (layout-of (plan .now))) (card .now) card₁ × Same (cell-count (layout-of (plan .now))) (latest .now) latest₁
 
   abbrev answer : Machine → Tally → Stepped
   answer r h = record { machine = r; tally = h }

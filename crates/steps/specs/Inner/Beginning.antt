@@ -6,9 +6,9 @@ use mathlib.Core.List.{List}
 use lib.ListN.{length, getD}
 use Rattle.model.specs.declared.Verdict.the-variants.{Accepted}
 use Rattle.model.specs.declared.Tally.{Tally}
-use Rattle.model.specs.Sides.{cells}
+use Rattle.model.specs.Sides.{cell-count}
 use Rattle.contents.specs.declared.Opened.{Opened}
-use Rattle.reading.specs.Bytes.{kind-of, arrays-of}
+use Rattle.reading.specs.Bytes.{kind-of, layout-of}
 use Rattle.format.specs.Opening.{opening, opened}
 use Rattle.memories.specs.Flags.{mask}
 use Rattle.known.specs.Inner.Knowing.{at-start}
@@ -35,7 +35,7 @@ pub record Ready (f : List ℕ) (o : Opened) (choices own others latest : List �
   pub found : o ≡ opened f
   pub opens : Accepted ≡ opening f
   pub kind : kind-of f ≡ 2
-  pub own-room : cells (arrays-of f) ≤ length own
-  pub others-room : cells (arrays-of f) ≤ length others
-  pub latest-room : cells (arrays-of f) ≤ length latest
+  pub own-room : cell-count (layout-of f) ≤ length own
+  pub others-room : cell-count (layout-of f) ≤ length others
+  pub latest-room : cell-count (layout-of f) ≤ length latest
   pub few : length choices ≤ 65536

@@ -3,7 +3,7 @@ use mathlib.Core.Path.{_≡_, refl, _∙_}
 use native.Mathlib.Omega.{arith}
 use Prim.Native.Nat.{ℕ, _+_, _-_, _*_, _≤_, _<_}
 use lib.ListN.{length, length-set, getD}
-use Rattle.reading.specs.Bytes.{arrays-of}
+use Rattle.reading.specs.Bytes.{layout-of}
 use Rattle.format.specs.Inner.Walks.{Walkable, block-between}
 use Rattle.format.proofs.Walking.{opened-facts}
 use Rattle.format.proofs.Acts.{record-inside, Here, here, Arms, arms, after-act}
@@ -294,7 +294,7 @@ row-of-returns-2 t c =
 
 abbrev turned-Inv-loop : turned-lts.InvT-loop
 turned-Inv-loop plan bodies rows₀ ahead class set low r second t₀ looked₀ todo₀ rows t looked todo =
-    Turning (arrays-of plan) (cell-of class) (block-between plan (r + 1) second) t₀ t looked todo
+    Turning (layout-of plan) (cell-of class) (block-between plan (r + 1) second) t₀ t looked todo
     × Exact plan (cell-of class) class rows (t .low)
     × (length rows ≡ length rows₀)
 

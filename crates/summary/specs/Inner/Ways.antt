@@ -6,11 +6,11 @@ use mathlib.Core.Bool.{cond}
 use mathlib.Core.List.{List}
 use lib.Dec.{eqb}
 use lib.ListN.{length, getD}
-use Rattle.model.specs.Sides.{length-of}
+use Rattle.model.specs.Sides.{span-of}
 use Rattle.model.specs.Blocks.{Block, done, branch, loop}
 use Rattle.model.proofs.Status.{Status}
 use Rattle.model.proofs.Through.{Goes, Stops}
-use Rattle.reading.specs.Bytes.{arrays-of, record-count, fields-at, first-arm}
+use Rattle.reading.specs.Bytes.{layout-of, record-count, fields-at, first-arm}
 use Rattle.format.specs.Inner.Walks.{Plain, Walkable, block-between}
 use Rattle.statuses.specs.declared.acts.Found.{Found}
 use Rattle.statuses.specs.Inner.Ran.{Below, Ran}
@@ -23,8 +23,8 @@ body-of f k = block-between f (k + 1) (k + 1 + first-arm (fields-at f k))
 
 -- g has the exits of the body of loop k from status w, and `low` is at most each of its stops
 pub record Kept (f : List ℕ) (c low k w g : ℕ) : Type 0 where
-  pub exits : (v : Status) → In g v ↔ ((u : Status) × (index u ≡ w) × Goes (arrays-of f) c (body-of f k) u v)
-  pub least : (u : Status) (r : ℕ) → index u ≡ w → Stops (arrays-of f) c (body-of f k) u r → Below low r
+  pub exits : (v : Status) → In g v ↔ ((u : Status) × (index u ≡ w) × Goes (layout-of f) c (body-of f k) u v)
+  pub least : (u : Status) (r : ℕ) → index u ≡ w → Stops (layout-of f) c (body-of f k) u r → Below low r
 
 -- the table has a row for each record and status, and no row is of a later class
 pub record Room (f : List ℕ) (class : ℕ) (rows : List ℕ) : Type 0 where
@@ -46,7 +46,7 @@ pub record Ready (f : List ℕ) (bodies : ℕ) (ahead : List ℕ) (class : ℕ) 
   pub array : ℕ
   pub offset : ℕ
   pub is : cell-of class ≡ cell-at f array offset
-  pub inside : offset < length-of (arrays-of f) array
+  pub inside : offset < span-of (layout-of f) array .length
   pub leads : Ahead f array offset 0 ahead
   pub small : class < 65536
   pub exact : Exact f (cell-of class) class rows low
@@ -63,5 +63,5 @@ nest kind r x y = cond (eqb kind 6) (branch r x y done) (loop r x done)
 
 -- t is what is found of the ways through block b, and the rows are exact again
 pub record Passed (f : List ℕ) (c class : ℕ) (b : Block) (from : Status → Type 0) (low : ℕ) (rows : List ℕ) (t : Found) : Type 0 where
-  pub ran : Ran (Goes (arrays-of f) c b) (Stops (arrays-of f) c b) from low t
+  pub ran : Ran (Goes (layout-of f) c b) (Stops (layout-of f) c b) from low t
   pub exact : Exact f c class rows (t .low)

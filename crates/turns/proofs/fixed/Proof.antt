@@ -3,7 +3,7 @@ use Prim.Native.Nat.{_+_, _-_, _≤_}
 use mathlib.Core.Path.{_≡_, refl, _∙_}
 use native.Mathlib.Omega.{arith}
 use lib.ListN.{length}
-use Rattle.reading.specs.Bytes.{arrays-of}
+use Rattle.reading.specs.Bytes.{layout-of}
 use Rattle.format.specs.Inner.Walks.{block-between}
 use Rattle.summary.specs.Inner.Ways.{cell-of, Exact}
 use Rattle.summary.proofs.Keeping.{ready-again}
@@ -15,7 +15,7 @@ use Rattle.turns.proofs.fixed.Tie as tie
 abbrev Inv-loop : tie.InvT-loop
 Inv-loop plan bodies rows₀ ahead class set low turns r second t₀ before₀ i₀ rows t before i =
     (i ≤ turns)
-    × Turns (arrays-of plan) (cell-of class) (block-between plan (r + 1) second) t₀ i before t
+    × Turns (layout-of plan) (cell-of class) (block-between plan (r + 1) second) t₀ i before t
     × Exact plan (cell-of class) class rows (t .low)
     × (length rows ≡ length rows₀)
 

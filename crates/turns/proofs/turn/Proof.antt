@@ -2,7 +2,7 @@
 use mathlib.Core.Path.{_≡_, refl, _∙_}
 use Prim.Native.Nat.{_+_}
 use lib.ListN.{length}
-use Rattle.reading.specs.Bytes.{arrays-of}
+use Rattle.reading.specs.Bytes.{layout-of}
 use Rattle.format.specs.Inner.Walks.{block-between}
 use Rattle.summary.specs.Inner.Ways.{cell-of, Exact}
 use Rattle.summary.proofs.Keeping.{ready-again}
@@ -13,7 +13,7 @@ use Rattle.turns.proofs.turn.Tie as tie
 
 abbrev Inv-loop : tie.InvT-loop
 Inv-loop plan bodies rows₀ ahead class set low r second t₀ todo₀ rows t todo =
-    Part (arrays-of plan) (cell-of class) (block-between plan (r + 1) second) todo₀ (t₀ .low) t todo
+    Part (layout-of plan) (cell-of class) (block-between plan (r + 1) second) todo₀ (t₀ .low) t todo
     × Exact plan (cell-of class) class rows (t .low)
     × (length rows ≡ length rows₀)
 

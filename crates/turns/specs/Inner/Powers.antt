@@ -5,7 +5,7 @@ use mathlib.Core.List.{List}
 use Rattle.model.specs.Blocks.{Block}
 use Rattle.model.proofs.Status.{Status}
 use Rattle.model.proofs.Through.{Goes, Stops}
-use Rattle.reading.specs.Bytes.{arrays-of}
+use Rattle.reading.specs.Bytes.{layout-of}
 use Rattle.statuses.specs.declared.acts.Found.{Found}
 use Rattle.statuses.specs.Inner.Sets.{In}
 use Rattle.statuses.specs.Inner.Ran.{Ran}
@@ -22,5 +22,5 @@ StopsWithin R S n u r = (m : ℕ) × (m < n) × ((w : Status) × Power R m u w �
 
 -- t is what is found of n turns of block x from the statuses of a set
 pub record Repeated (f : List ℕ) (c class : ℕ) (x : Block) (n set low : ℕ) (rows : List ℕ) (t : Found) : Type 0 where
-  pub ran : Ran (Power (Goes (arrays-of f) c x) n) (StopsWithin (Goes (arrays-of f) c x) (Stops (arrays-of f) c x) n) (In set) low t
+  pub ran : Ran (Power (Goes (layout-of f) c x) n) (StopsWithin (Goes (layout-of f) c x) (Stops (layout-of f) c x) n) (In set) low t
   pub exact : Exact f c class rows (t .low)
