@@ -8,12 +8,13 @@ use native.Mathlib.Omega.{arith}
 use lib.Dec.{eqb}
 use lib.ListN.{length, getD}
 use borrow.Author.Tests.{eq-eqb, ne-eqb}
-use Rattle.model.specs.Sides.{Side, host, card, other, Layout, Cells}
-use Rattle.model.specs.Effects.{Action, read, write, copy, need, mark, State}
+use Rattle.model.specs.Sides.{Side, host, card, other, Layout}
+use Rattle.model.specs.Records.{Verb, read, write, copy, need, mark, Action}
+use Rattle.model.specs.Effects.{State}
 use Rattle.model.specs.Runs.{Event, lowest-unmet}
 use Rattle.reading.specs.declared.Fields.{Fields}
 use Rattle.format.specs.Plans.{side-of, action-of}
-use Rattle.format.proofs.Acts.{by-kind}
+use Rattle.format.proofs.Acts.{acting, by-kind}
 use Rattle.memories.specs.Flags.{mask}
 use Rattle.memories.specs.Inner.Ranges.{FirstStale, Changed, Same, of-side, ChangedOn}
 use Rattle.memories.proofs.Cells.{changed-same, same-all}
@@ -22,7 +23,7 @@ use Rattle.known.specs.Inner.Knowing.{Wrote, Copied}
 use Rattle.acts.specs.declared.Stored.{Stored}
 use Rattle.acts.specs.declared.Acted.{Acted}
 use Rattle.acts.specs.declared.Acted.the-variants.{Done, Unmet}
-use Rattle.acts.specs.Inner.Acting.{Low, CellsAt, ArrayAt, CellsOf, Spans, Holds, BothSetAs, FollowsAs, ActsAs, Acts, side-on, flags-on, MovesCells, MovesOn}
+use Rattle.acts.specs.Inner.Acting.{Low, with-verb, CellsAt, ArrayAt, CellsOf, Holds, BothSetAs, FollowsAs, ActsAs, Acts, side-on, flags-on, MovesCells, MovesOn}
 use Rattle.acts.proofs.Stale.{none-stale}
 use Rattle.acts.proofs.Acting.{read-done, read-unmet, write-done, copy-follows, need-idle, need-follows, mark-done}
 
@@ -95,50 +96,52 @@ module _ {layout : Layout} {s : Stored} {hs cs latest : List ℕ} {σ : State} {
   holds-on false = h
 
   -- the flags of a side
-  pub flags-held : (b : Bool) → flags-on b s ≡ mask (length (layout .lengths)) (σ .flag (side-on b))
+  pub flags-held : (b : Bool) → flags-on b s ≡ mask (length (layout .lengths)) (λ a. σ .flags a .flag (side-on b))
   flags-held true = h .others-flags
   flags-held false = h .own-flags
 
   module _ (low : Low s) where
-    module _ {x : Cells} {from to : ℕ} (k : CellsAt layout x from to) where
-      pub read-done-on : (b : Bool) {r : ℕ} → FirstStale (of-side b hs cs) latest from to r → to ≤ r →
-          ActsAs layout (read (side-on b) x) σ l hs cs latest (Done (record { flags = s .flags; «other_flags» = s .«other_flags»; reads = s .reads + 1; writes = s .writes; moved = s .moved; known = s .known })) hs cs latest
-      read-done-on true f m = acts-on layout (read card x) σ l hs cs latest true (Done (record { flags = s .flags; «other_flags» = s .«other_flags»; reads = s .reads + 1; writes = s .writes; moved = s .moved; known = s .known })) hs cs latest refl (read-done (holds-on true) k (low-seen true low) f m)
-      read-done-on false f m = acts-on layout (read host x) σ l hs cs latest false (Done (record { flags = s .flags; «other_flags» = s .«other_flags»; reads = s .reads + 1; writes = s .writes; moved = s .moved; known = s .known })) hs cs latest refl (read-done h k low f m)
+    pub read-done-on : (b : Bool) (x : Action) {from to : ℕ} → CellsAt layout (with-verb read (side-on b) x) from to → {r : ℕ} → FirstStale (of-side b hs cs) latest from to r → to ≤ r →
+        ActsAs layout (with-verb read (side-on b) x) σ l hs cs latest (Done (record { flags = s .flags; «other_flags» = s .«other_flags»; reads = s .reads + 1; writes = s .writes; moved = s .moved; known = s .known })) hs cs latest
+    read-done-on true x k f m = acts-on layout (with-verb read card x) σ l hs cs latest true (Done (record { flags = s .flags; «other_flags» = s .«other_flags»; reads = s .reads + 1; writes = s .writes; moved = s .moved; known = s .known })) hs cs latest refl (read-done (holds-on true) x k (low-seen true low) f m)
+    read-done-on false x k f m = acts-on layout (with-verb read host x) σ l hs cs latest false (Done (record { flags = s .flags; «other_flags» = s .«other_flags»; reads = s .reads + 1; writes = s .writes; moved = s .moved; known = s .known })) hs cs latest refl (read-done h x k low f m)
 
-      pub read-unmet-on : (b : Bool) {r : ℕ} → FirstStale (of-side b hs cs) latest from to r → r < to → lowest-unmet layout (read (side-on b) x) σ ≡ some r
-      read-unmet-on b f m = read-unmet (holds-on b) k (low-seen b low) f m
+    pub read-unmet-on : (b : Bool) (x : Action) {from to : ℕ} → CellsAt layout (with-verb read (side-on b) x) from to → {r : ℕ} → FirstStale (of-side b hs cs) latest from to r → r < to →
+        lowest-unmet layout (with-verb read (side-on b) x) σ ≡ some r
+    read-unmet-on b x k f m = read-unmet (holds-on b) x k (low-seen b low) f m
 
-    module _ {x : Cells} {a : ℕ} {whole : Bool} {from to : ℕ} (k : CellsOf layout x a whole from to) where
-      pub write-done-on : (b : Bool) (n : Known) → Wrote b whole a (s .known) n → {hs′ cs′ latest′ : List ℕ} → ChangedOn b from to (λ c. s .writes + 1) hs cs hs′ cs′ → Changed from to (λ c. s .writes + 1) latest latest′ →
-          ActsAs layout (write (side-on b) x) σ l hs cs latest (Done (record { flags = s .flags; «other_flags» = s .«other_flags»; reads = s .reads; writes = s .writes + 1; moved = s .moved; known = n })) hs′ cs′ latest′
-      write-done-on true n w {hs′} {cs′} {latest′} c d = acts-on layout (write card x) σ l hs cs latest true (Done (record { flags = s .flags; «other_flags» = s .«other_flags»; reads = s .reads; writes = s .writes + 1; moved = s .moved; known = n })) hs′ cs′ latest′ (c .others) (write-done (holds-on true) k (turned n) (record { own = w .own; others = w .others }) (c .own) d)
-      write-done-on false n w {hs′} {cs′} {latest′} c d = acts-on layout (write host x) σ l hs cs latest false (Done (record { flags = s .flags; «other_flags» = s .«other_flags»; reads = s .reads; writes = s .writes + 1; moved = s .moved; known = n })) hs′ cs′ latest′ (c .others) (write-done h k n w (c .own) d)
+    pub write-done-on : (b : Bool) (x : Action) {a : ℕ} {whole : Bool} {from to : ℕ} → CellsOf layout (with-verb write (side-on b) x) a whole from to →
+        (n : Known) → Wrote b whole a (s .known) n → {hs′ cs′ latest′ : List ℕ} → ChangedOn b from to (λ c. s .writes + 1) hs cs hs′ cs′ → Changed from to (λ c. s .writes + 1) latest latest′ →
+        ActsAs layout (with-verb write (side-on b) x) σ l hs cs latest (Done (record { flags = s .flags; «other_flags» = s .«other_flags»; reads = s .reads; writes = s .writes + 1; moved = s .moved; known = n })) hs′ cs′ latest′
+    write-done-on true x k n w {hs′} {cs′} {latest′} c d = acts-on layout (with-verb write card x) σ l hs cs latest true (Done (record { flags = s .flags; «other_flags» = s .«other_flags»; reads = s .reads; writes = s .writes + 1; moved = s .moved; known = n })) hs′ cs′ latest′ (c .others) (write-done (holds-on true) x k (turned n) (record { own = w .own; others = w .others }) (c .own) d)
+    write-done-on false x k n w {hs′} {cs′} {latest′} c d = acts-on layout (with-verb write host x) σ l hs cs latest false (Done (record { flags = s .flags; «other_flags» = s .«other_flags»; reads = s .reads; writes = s .writes + 1; moved = s .moved; known = n })) hs′ cs′ latest′ (c .others) (write-done h x k n w (c .own) d)
 
-      pub copy-acts : (b : Bool) {hs′ cs′ : List ℕ} (r : Acted) → MovesOn b a whole from to s hs cs latest r hs′ cs′ → ActsAs layout (copy (side-on b) x) σ l hs cs latest r hs′ cs′ latest
-      copy-acts b {hs′} {cs′} r m = acts-on layout (copy (side-on b) x) σ l hs cs latest b r hs′ cs′ latest (m .others)
-          (copy-follows (holds-on b) k (low-seen b low) (seen-as b r) (of-side b hs′ cs′) (moves-seen b a whole from to s (of-side b hs cs) (of-side b cs hs) latest (of-side b hs′ cs′) r (m .moves)))
+    pub copy-acts : (b : Bool) (x : Action) {a : ℕ} {whole : Bool} {from to : ℕ} → CellsOf layout (with-verb copy (side-on b) x) a whole from to →
+        {hs′ cs′ : List ℕ} (r : Acted) → MovesOn b a whole from to s hs cs latest r hs′ cs′ → ActsAs layout (with-verb copy (side-on b) x) σ l hs cs latest r hs′ cs′ latest
+    copy-acts b x {a} {whole} {from} {to} k {hs′} {cs′} r m = acts-on layout (with-verb copy (side-on b) x) σ l hs cs latest b r hs′ cs′ latest (m .others)
+        (copy-follows (holds-on b) x k (low-seen b low) (seen-as b r) (of-side b hs′ cs′) (moves-seen b a whole from to s (of-side b hs cs) (of-side b cs hs) latest (of-side b hs′ cs′) r (m .moves)))
 
-    module _ {a from to : ℕ} (k : ArrayAt layout a from to) where
-      pub need-idle-on : (b : Bool) → σ .flag (side-on b) a ≡ true → ActsAs layout (need (side-on b) a) σ l hs cs latest (Done s) hs cs latest
-      need-idle-on b e = acts-on layout (need (side-on b) a) σ l hs cs latest b (Done s) hs cs latest refl (need-idle (holds-on b) k e)
+    module _ (b : Bool) (x : Action) {a : ℕ} {whole : Bool} {from to : ℕ} (k : CellsOf layout (with-verb need (side-on b) x) a whole from to) where
+      pub need-idle-on : σ .flags a .flag (side-on b) ≡ true → ActsAs layout (with-verb need (side-on b) x) σ l hs cs latest (Done s) hs cs latest
+      need-idle-on e = acts-on layout (with-verb need (side-on b) x) σ l hs cs latest b (Done s) hs cs latest refl (need-idle (holds-on b) x k e)
 
-      pub need-acts : (b whole : Bool) {hs′ cs′ : List ℕ} (r q : Acted) → σ .flag (side-on b) a ≡ false → MovesOn b a whole from to s hs cs latest r hs′ cs′ → BothSetAs r a q → ActsAs layout (need (side-on b) a) σ l hs cs latest q hs′ cs′ latest
-      need-acts b whole {hs′} {cs′} r q e m n = acts-on layout (need (side-on b) a) σ l hs cs latest b q hs′ cs′ latest (m .others)
-          (need-follows (holds-on b) k whole (low-seen b low) e (seen-as b r) (seen-as b q) (of-side b hs′ cs′) (moves-seen b a whole from to s (of-side b hs cs) (of-side b cs hs) latest (of-side b hs′ cs′) r (m .moves)) (both-seen b a r q n))
+      pub need-acts : {hs′ cs′ : List ℕ} (r q : Acted) → σ .flags a .flag (side-on b) ≡ false → MovesOn b a whole from to s hs cs latest r hs′ cs′ → BothSetAs r a q →
+          ActsAs layout (with-verb need (side-on b) x) σ l hs cs latest q hs′ cs′ latest
+      need-acts {hs′} {cs′} r q e m n = acts-on layout (with-verb need (side-on b) x) σ l hs cs latest b q hs′ cs′ latest (m .others)
+          (need-follows (holds-on b) x k (low-seen b low) e (seen-as b r) (seen-as b q) (of-side b hs′ cs′) (moves-seen b a whole from to s (of-side b hs cs) (of-side b cs hs) latest (of-side b hs′ cs′) r (m .moves)) (both-seen b a r q n))
 
   -- a mark
-  pub mark-card : (b : Bool) (a : ℕ) (s′ : Stored) → b ≡ true →
-      s′ .flags ≡ mask (length (layout .lengths)) (λ d. cond (eqb d a) false (σ .flag host d)) → s′ .«other_flags» ≡ mask (length (layout .lengths)) (λ d. cond (eqb d a) true (σ .flag card d)) →
-      s′ .reads ≡ s .reads → s′ .writes ≡ s .writes → s′ .moved ≡ s .moved → s′ .known ≡ s .known → ActsAs layout (mark (side-on b) a) σ l hs cs latest (Done s′) hs cs latest
-  mark-card true a s′ e f g i j m n = acts-on layout (mark card a) σ l hs cs latest true (Done s′) hs cs latest refl (mark-done (holds-on true) a (swapped s′) g f i j m (ap turned n))
-  mark-card false a s′ e f g i j m n = absurd (true≢false (rw e refl))
+  pub mark-card : (b : Bool) (x : Action) (s′ : Stored) → b ≡ true →
+      s′ .flags ≡ mask (length (layout .lengths)) (λ d. cond (eqb d (x .name)) false (σ .flags d .flag host)) → s′ .«other_flags» ≡ mask (length (layout .lengths)) (λ d. cond (eqb d (x .name)) true (σ .flags d .flag card)) →
+      s′ .reads ≡ s .reads → s′ .writes ≡ s .writes → s′ .moved ≡ s .moved → s′ .known ≡ s .known → ActsAs layout (with-verb mark (side-on b) x) σ l hs cs latest (Done s′) hs cs latest
+  mark-card true x s′ e f g i j m n = acts-on layout (with-verb mark card x) σ l hs cs latest true (Done s′) hs cs latest refl (mark-done (holds-on true) x (swapped s′) g f i j m (ap turned n))
+  mark-card false x s′ e f g i j m n = absurd (true≢false (rw e refl))
 
-  pub mark-host : (b : Bool) (a : ℕ) (s′ : Stored) → b ≡ false →
-      s′ .flags ≡ mask (length (layout .lengths)) (λ d. cond (eqb d a) true (σ .flag host d)) → s′ .«other_flags» ≡ mask (length (layout .lengths)) (λ d. cond (eqb d a) false (σ .flag card d)) →
-      s′ .reads ≡ s .reads → s′ .writes ≡ s .writes → s′ .moved ≡ s .moved → s′ .known ≡ s .known → ActsAs layout (mark (side-on b) a) σ l hs cs latest (Done s′) hs cs latest
-  mark-host false a s′ e f g i j m n = acts-on layout (mark host a) σ l hs cs latest false (Done s′) hs cs latest refl (mark-done h a s′ f g i j m n)
-  mark-host true a s′ e f g i j m n = absurd (true≢false e)
+  pub mark-host : (b : Bool) (x : Action) (s′ : Stored) → b ≡ false →
+      s′ .flags ≡ mask (length (layout .lengths)) (λ d. cond (eqb d (x .name)) true (σ .flags d .flag host)) → s′ .«other_flags» ≡ mask (length (layout .lengths)) (λ d. cond (eqb d (x .name)) false (σ .flags d .flag card)) →
+      s′ .reads ≡ s .reads → s′ .writes ≡ s .writes → s′ .moved ≡ s .moved → s′ .known ≡ s .known → ActsAs layout (with-verb mark (side-on b) x) σ l hs cs latest (Done s′) hs cs latest
+  mark-host false x s′ e f g i j m n = acts-on layout (with-verb mark host x) σ l hs cs latest false (Done s′) hs cs latest refl (mark-done h x s′ f g i j m n)
+  mark-host true x s′ e f g i j m n = absurd (true≢false e)
 
 -- a copy to a side, unmet or done
 pub move-unmet : (b : Bool) (a : ℕ) (whole : Bool) (from to : ℕ) (s : Stored) (hs cs latest : List ℕ) {r : ℕ} → FirstStale (of-side (not b) hs cs) latest from to r → r < to → MovesOn b a whole from to s hs cs latest (Unmet (record { 0 = r })) hs cs
@@ -172,46 +175,52 @@ module _ (x : Fields) (whole : Bool) (from to : ℕ) (s : Stored) (hs cs latest 
   abbrev on : Bool
   on = not (eqb (x .side) 0)
 
-  -- the cells that it names
-  abbrev named : Cells
-  named = record { array = x .array; p = x .p; q = x .q }
+  -- the array and the cells that it names
+  abbrev named : Action
+  named = acting read x
 
   abbrev As : List ℕ → List ℕ → List ℕ → Action → Type 0
-  As hs′ cs′ latest′ y = (layout : Layout) → Spans layout y from to → (whole ≡ true → ArrayAt layout (x .array) from to) → Acts layout y s hs cs latest r hs′ cs′ latest′
+  As hs′ cs′ latest′ y = (layout : Layout) → CellsAt layout y from to → (whole ≡ true → ArrayAt layout (x .array) from to) → Acts layout y s hs cs latest r hs′ cs′ latest′
 
   same : side-on on ≡ side-of (x .side)
   same = side-same (x .side) (eqb (x .side) 0) refl
 
+  -- of any verb, seen from its side
+  by-verb : (v : Verb) (hs′ cs′ latest′ : List ℕ) →
+      ((layout : Layout) → CellsOf layout (with-verb v (side-on on) named) (x .array) whole from to → Acts layout (with-verb v (side-on on) named) s hs cs latest r hs′ cs′ latest′) →
+      As hs′ cs′ latest′ (acting v x)
+  by-verb v hs′ cs′ latest′ p = carry (λ t. As hs′ cs′ latest′ (with-verb v t named)) same (λ layout k w. p layout (record { range = k; array = refl; all = w }))
+
   pub here-read : x .kind ≡ 1 →
-      ((layout : Layout) (z : Cells) → CellsAt layout z from to → Acts layout (read (side-on on) z) s hs cs latest r hs cs latest) →
+      ((layout : Layout) (z : Action) → CellsAt layout (with-verb read (side-on on) z) from to → Acts layout (with-verb read (side-on on) z) s hs cs latest r hs cs latest) →
       As hs cs latest (action-of x)
   here-read e p =
       by-kind x (omega arith, omega arith) (As hs cs latest)
-      (λ _. carry (λ t. As hs cs latest (read t named)) same (λ layout k w. p layout named k))
+      (λ _. by-verb read hs cs latest (λ layout k. p layout named (k .range)))
       (λ z. absurd (omega arith)) (λ z. absurd (omega arith)) (λ z. absurd (omega arith)) (λ z. absurd (omega arith))
 
   pub here-write : x .kind ≡ 2 → (hs′ cs′ latest′ : List ℕ) →
-      ((layout : Layout) (z : Cells) → CellsOf layout z (x .array) whole from to → Acts layout (write (side-on on) z) s hs cs latest r hs′ cs′ latest′) →
+      ((layout : Layout) (z : Action) → CellsOf layout (with-verb write (side-on on) z) (x .array) whole from to → Acts layout (with-verb write (side-on on) z) s hs cs latest r hs′ cs′ latest′) →
       As hs′ cs′ latest′ (action-of x)
   here-write e hs′ cs′ latest′ p =
       by-kind x (omega arith, omega arith) (As hs′ cs′ latest′) (λ z. absurd (omega arith))
-      (λ _. carry (λ t. As hs′ cs′ latest′ (write t named)) same (λ layout k w. p layout named (record { range = k; array = refl; all = w })))
+      (λ _. by-verb write hs′ cs′ latest′ (λ layout. p layout named))
       (λ z. absurd (omega arith)) (λ z. absurd (omega arith)) (λ z. absurd (omega arith))
 
   pub here-move : (1 ≤ x .kind) × (x .kind ≤ 5) → (x .kind ≡ 1 → ⊥) → (x .kind ≡ 2 → ⊥) → (x .kind ≡ 5 → ⊥) → (hs′ cs′ : List ℕ) →
-      (eqb (x .kind) 4 ≡ false → (layout : Layout) (z : Cells) → CellsOf layout z (x .array) whole from to → Acts layout (copy (side-on on) z) s hs cs latest r hs′ cs′ latest) →
-      (eqb (x .kind) 4 ≡ true → (layout : Layout) → ArrayAt layout (x .array) from to → Acts layout (need (side-on on) (x .array)) s hs cs latest r hs′ cs′ latest) →
+      (eqb (x .kind) 4 ≡ false → (layout : Layout) (z : Action) → CellsOf layout (with-verb copy (side-on on) z) (x .array) whole from to → Acts layout (with-verb copy (side-on on) z) s hs cs latest r hs′ cs′ latest) →
+      (eqb (x .kind) 4 ≡ true → (layout : Layout) (z : Action) → CellsOf layout (with-verb need (side-on on) z) (x .array) whole from to → Acts layout (with-verb need (side-on on) z) s hs cs latest r hs′ cs′ latest) →
       As hs′ cs′ latest (action-of x)
   here-move b n1 n2 n5 hs′ cs′ m p =
       by-kind x b (As hs′ cs′ latest) (λ z. absurd (n1 z)) (λ z. absurd (n2 z))
-      (λ e. carry (λ t. As hs′ cs′ latest (copy t named)) same (λ layout k w. m (ne-eqb (x .kind) 4 (λ z. omega arith)) layout named (record { range = k; array = refl; all = w })))
-      (λ e. carry (λ t. As hs′ cs′ latest (need t (x .array))) same (λ layout k w. p (eq-eqb (x .kind) 4 e) layout k))
+      (λ e. by-verb copy hs′ cs′ latest (λ layout. m (ne-eqb (x .kind) 4 (λ z. omega arith)) layout named))
+      (λ e. by-verb need hs′ cs′ latest (λ layout. p (eq-eqb (x .kind) 4 e) layout named))
       (λ z. absurd (n5 z))
 
   pub here-mark : x .kind ≡ 5 →
-      ((layout : Layout) (from to : ℕ) (hs cs latest : List ℕ) → ArrayAt layout (x .array) from to → Acts layout (mark (side-on on) (x .array)) s hs cs latest r hs cs latest) →
+      ((layout : Layout) (z : Action) (hs cs latest : List ℕ) → z .name ≡ x .array → x .array < length (layout .lengths) → Acts layout (with-verb mark (side-on on) z) s hs cs latest r hs cs latest) →
       As hs cs latest (action-of x)
   here-mark e p =
       by-kind x (omega arith, omega arith) (As hs cs latest)
       (λ z. absurd (omega arith)) (λ z. absurd (omega arith)) (λ z. absurd (omega arith)) (λ z. absurd (omega arith))
-      (λ _. carry (λ t. As hs cs latest (mark t (x .array))) same (λ layout k w. p layout from to hs cs latest k))
+      (λ _. by-verb mark hs cs latest (λ layout k. p layout named hs cs latest refl (k .range .one)))

@@ -3,12 +3,13 @@ ghost use mathlib.Core.Path.{_≡_};
 ghost use mathlib.Core.Bool.{true, false, not};
 ghost use mathlib.Core.List.{List};
 ghost use Prim.Native.Nat.{ℕ, _≤_, _<_};
-ghost use Rattle.model.specs.Sides.{Layout, Cells};
-ghost use Rattle.model.specs.Effects.{read, write, copy, need, mark};
+ghost use lib.ListN.{length};
+ghost use Rattle.model.specs.Sides.{Layout};
+ghost use Rattle.model.specs.Records.{read, write, copy, need, mark, Action};
 ghost use Rattle.format.specs.Plans.{action-of};
 ghost use Rattle.memories.specs.Inner.Ranges.{AllCurrent, FirstStale, Same, of-side};
 ghost use Rattle.known.specs.Inner.Knowing.{Sure};
-ghost use Rattle.acts.specs.Inner.Acting.{Rooms, Low, CellsAt, ArrayAt, CellsOf, Spans, BothSet, BothSetAs, Acts, side-on, flags-on, MovesOn};
+ghost use Rattle.acts.specs.Inner.Acting.{Rooms, Low, with-verb, CellsAt, ArrayAt, CellsOf, BothSet, BothSetAs, Acts, side-on, flags-on, MovesOn};
 use known::Known;
 use known::known_copied;
 use known::known_written;
@@ -74,7 +75,7 @@ fn act_read<'a>(
     latest: &[u64],
 ) -> Acted
     requires { ⌜ Low s × (array < 32) × Sure (s .known) array from to (now host) (now card) (now latest) × Rooms from to (now host) (now card) (now latest) ⌝ }
-    ensures { λ r. ⌜ ((layout : Layout) (x : Cells) → CellsAt layout x from to → Acts layout (read (side-on «on_card») x) s (now (host .entry)) (now (card .entry)) (now (latest .entry)) r (now (host .entry)) (now (card .entry)) (now (latest .entry))) ⌝ }
+    ensures { λ r. ⌜ ((layout : Layout) (x : Action) → CellsAt layout (with-verb read (side-on «on_card») x) from to → Acts layout (with-verb read (side-on «on_card») x) s (now (host .entry)) (now (card .entry)) (now (latest .entry)) r (now (host .entry)) (now (card .entry)) (now (latest .entry))) ⌝ }
 {
     let k = s.known;
     let known = sure(k, on_card, array);
@@ -105,7 +106,7 @@ fn act_write(
     latest: &mut [u64],
 ) -> Acted
     requires { ⌜ Low s × (array < 32) × Rooms from to (now host) (now card) (now latest) ⌝ }
-    ensures acts { λ r. ⌜ ((layout : Layout) (x : Cells) → CellsOf layout x array whole from to → Acts layout (write (side-on «on_card») x) s (now (host .entry)) (now (card .entry)) (now (latest .entry)) r (now (host .exit)) (now (card .exit)) (now (latest .exit))) ⌝ }
+    ensures acts { λ r. ⌜ ((layout : Layout) (x : Action) → CellsOf layout (with-verb write (side-on «on_card») x) array whole from to → Acts layout (with-verb write (side-on «on_card») x) s (now (host .entry)) (now (card .entry)) (now (latest .entry)) r (now (host .exit)) (now (card .exit)) (now (latest .exit))) ⌝ }
     ensures same { λ _. ⌜ Same to (now (host .entry)) (now (host .exit)) × Same to (now (card .entry)) (now (card .exit)) × Same to (now (latest .entry)) (now (latest .exit)) ⌝ }
 {
     let k = s.writes + 1;
@@ -204,8 +205,8 @@ fn act_move(
     latest: &[u64],
 ) -> Acted
     requires { ⌜ Low s × (array < 32) × Sure (s .known) array from to (now host) (now card) (now latest) × Rooms from to (now host) (now card) (now latest) ⌝ }
-    ensures copies { λ r. ⌜ (needs ≡ false → (layout : Layout) (x : Cells) → CellsOf layout x array whole from to → Acts layout (copy (side-on «on_card») x) s (now (host .entry)) (now (card .entry)) (now (latest .entry)) r (now (host .exit)) (now (card .exit)) (now (latest .entry))) ⌝ }
-    ensures needed { λ r. ⌜ (needs ≡ true → (layout : Layout) → ArrayAt layout array from to → Acts layout (need (side-on «on_card») array) s (now (host .entry)) (now (card .entry)) (now (latest .entry)) r (now (host .exit)) (now (card .exit)) (now (latest .entry))) ⌝ }
+    ensures copies { λ r. ⌜ (needs ≡ false → (layout : Layout) (x : Action) → CellsOf layout (with-verb copy (side-on «on_card») x) array whole from to → Acts layout (with-verb copy (side-on «on_card») x) s (now (host .entry)) (now (card .entry)) (now (latest .entry)) r (now (host .exit)) (now (card .exit)) (now (latest .entry))) ⌝ }
+    ensures needed { λ r. ⌜ (needs ≡ true → (layout : Layout) (x : Action) → CellsOf layout (with-verb need (side-on «on_card») x) array whole from to → Acts layout (with-verb need (side-on «on_card») x) s (now (host .entry)) (now (card .entry)) (now (latest .entry)) r (now (host .exit)) (now (card .exit)) (now (latest .entry))) ⌝ }
     ensures same { λ _. ⌜ Same to (now (host .entry)) (now (host .exit)) × Same to (now (card .entry)) (now (card .exit)) ⌝ }
 {
     if needs & flag_set(side_flags(on_card, s), array) {
@@ -221,7 +222,7 @@ fn act_move(
 // A mark of an array on a side.
 fn act_mark(on_card: bool, array: u8, s: Stored) -> Acted
     requires { ⌜ array < 32 ⌝ }
-    ensures { λ r. ⌜ ((layout : Layout) (from to : ℕ) (host card latest : List ℕ) → ArrayAt layout array from to → Acts layout (mark (side-on «on_card») array) s host card latest r host card latest) ⌝ }
+    ensures { λ r. ⌜ ((layout : Layout) (x : Action) (host card latest : List ℕ) → x .name ≡ array → array < length (layout .lengths) → Acts layout (with-verb mark (side-on «on_card») x) s host card latest r host card latest) ⌝ }
 {
     let k = s.known;
     if on_card {
@@ -257,7 +258,7 @@ pub fn act(
     latest: &mut [u64],
 ) -> Acted
     requires { ⌜ Low s × Sure (s .known) (x .array) from to (now host) (now card) (now latest) × (1 ≤ x .kind) × (x .kind ≤ 5) × (x .array < 32) × Rooms from to (now host) (now card) (now latest) ⌝ }
-    ensures follows { λ r. ⌜ ((layout : Layout) → Spans layout (action-of x) from to → (whole ≡ true → ArrayAt layout (x .array) from to) → Acts layout (action-of x) s (now (host .entry)) (now (card .entry)) (now (latest .entry)) r (now (host .exit)) (now (card .exit)) (now (latest .exit))) ⌝ }
+    ensures follows { λ r. ⌜ ((layout : Layout) → CellsAt layout (action-of x) from to → (whole ≡ true → ArrayAt layout (x .array) from to) → Acts layout (action-of x) s (now (host .entry)) (now (card .entry)) (now (latest .entry)) r (now (host .exit)) (now (card .exit)) (now (latest .exit))) ⌝ }
     ensures host { λ _. ⌜ Same to (now (host .entry)) (now (host .exit)) ⌝ }
     ensures card { λ _. ⌜ Same to (now (card .entry)) (now (card .exit)) ⌝ }
     ensures latest { λ _. ⌜ Same to (now (latest .entry)) (now (latest .exit)) ⌝ }

@@ -2,14 +2,15 @@
 use Prim.Native.Nat.{ℕ, zero, suc, _+_, _≤_, _<_}
 use mathlib.Core.Path.{_≡_, refl, sym, _∙_}
 use mathlib.Core.Logic.{inl, inr}
-use mathlib.Core.Bool.{Bool, true, false}
 use mathlib.Core.List.{List}
 use native.Nat.{ℕᴺ-discrete}
 use native.Mathlib.Decide.{decLt}
 use native.Mathlib.Omega.{arith}
 use Rattle.model.specs.Sides.{Layout, span-of}
-use Rattle.model.specs.Effects.{Action}
+use Rattle.model.specs.Records.{Action, covers as covers-cell}
 use Rattle.model.specs.Blocks.{Block, done, act, branch, loop}
+use Rattle.model.specs.Inner.Holders.{array-of}
+use Rattle.model.proofs.Numbering.{array-from}
 use Rattle.model.proofs.Status.{Status, met-in, status-after}
 use Rattle.model.proofs.Through.{Star, stay, more, Goes, Stops, StopsAt}
 use Rattle.reading.specs.Bytes.{layout-of, record-count, fields-at}
@@ -20,35 +21,27 @@ use Rattle.format.proofs.Trees.{block-none, block-branch, block-loop, block-act
 use Rattle.format.proofs.Acts.{here}
 use Rattle.statuses.specs.Inner.Sets.{at-start}
 use Rattle.lookahead.specs.Inner.Ahead.{cell-at, covers}
-use Rattle.summary.proofs.Touched.{touches, touched-met-in, touched-status-after, untouched-met-in, untouched-status-after}
 use Rattle.summary.proofs.Actions.{act-covers}
 
 star-map : {R T : Status → Status → Type 0} → ((u v : Status) → R u v → T u v) → {u v : Status} → Star R u v → Star T u v
 star-map h stay = stay
 star-map h {u} (more {w = w} r s) = more (h u w r) (star-map h s)
 
--- two cells that each record of a block touches both or neither
-module _ (layout : Layout) (c d : ℕ) where
+-- two cells of one array that each record of a block covers both or neither
+module _ (layout : Layout) (c d : ℕ) (own : array-of layout c ≡ array-of layout d) where
   abbrev Alike : Block → Type 0
   Alike done = Unit {0}
-  Alike (act k x b) = (touches layout c x ≡ touches layout d x) × Alike b
+  Alike (act k x b) = (covers-cell layout x c ≡ covers-cell layout x d) × Alike b
   Alike (branch k x y b) = Alike x × Alike y × Alike b
   Alike (loop k x b) = Alike x × Alike b
 
   -- a record leaves them in the same status, and needs the same of them
-  status-alike : (x : Action) → touches layout c x ≡ touches layout d x → (u : Status) → status-after layout c x u ≡ status-after layout d x u
-  status-alike x e u = go (touches layout d x) e refl
-    where
-      go : (t : Bool) → touches layout c x ≡ t → touches layout d x ≡ t → status-after layout c x u ≡ status-after layout d x u
-      go true p q = touched-status-after layout c x p u ∙ sym (touched-status-after layout d x q u)
-      go false p q = untouched-status-after layout c x p u ∙ sym (untouched-status-after layout d x q u)
+  module _ (x : Action) (e : covers-cell layout x c ≡ covers-cell layout x d) (u : Status) where
+    status-alike : status-after layout c x u ≡ status-after layout d x u
+    status-alike = rw (e, own)
 
-  met-alike : (x : Action) → touches layout c x ≡ touches layout d x → (u : Status) → met-in layout c x u ≡ met-in layout d x u
-  met-alike x e u = go (touches layout d x) e refl
-    where
-      go : (t : Bool) → touches layout c x ≡ t → touches layout d x ≡ t → met-in layout c x u ≡ met-in layout d x u
-      go true p q = touched-met-in layout c x p u ∙ sym (touched-met-in layout d x q u)
-      go false p q = untouched-met-in layout c x p u ∙ sym (untouched-met-in layout d x q u)
+    met-alike : met-in layout c x u ≡ met-in layout d x u
+    met-alike = rw e
 
   goes-alike : (b : Block) → Alike b → (u v : Status) → Goes layout c b u v → Goes layout d b u v
   goes-alike done a u v g = g
@@ -79,8 +72,12 @@ module _ (layout : Layout) (c d : ℕ) where
 -- a cell that no record tells apart from the cell before it in its array
 module _ (f : List ℕ) (bodies : ℕ) (w : Plain f bodies) (array offset : ℕ) (inside : suc offset < span-of (layout-of f) array .length)
     (alike : (k : ℕ) → k < record-count f → covers (fields-at f k) array (suc offset) ≡ covers (fields-at f k) array offset) where
+  -- they are of one array
+  own : array-of (layout-of f) (cell-at f array (suc offset)) ≡ array-of (layout-of f) (cell-at f array offset)
+  own = array-from (layout-of f) array _ (omega arith) (omega arith) ∙ sym (array-from (layout-of f) array _ (omega arith) (omega arith))
+
   abbrev These : Block → Type 0
-  These = Alike (layout-of f) (cell-at f array (suc offset)) (cell-at f array offset)
+  These = Alike (layout-of f) (cell-at f array (suc offset)) (cell-at f array offset) own
 
   block-alike : (n r end : ℕ) → Walkable f r end → end ≤ r + n → end ≤ record-count f → These (block-between f r end)
   block-alike zero r end g l m = rw (block-none f r end (omega arith)) tt
@@ -106,5 +103,5 @@ module _ (f : List ℕ) (bodies : ℕ) (w : Plain f bodies) (array offset : ℕ)
   unfolding plan-of
   stop-alike r =
       let o = opened-facts f (w .opens) in
-      rw (plain-body f) (stops-alike (layout-of f) (cell-at f array (suc offset)) (cell-at f array offset) (block-between f 0 (record-count f))
+      rw (plain-body f) (stops-alike (layout-of f) (cell-at f array (suc offset)) (cell-at f array offset) own (block-between f 0 (record-count f))
       (block-alike (record-count f) 0 (record-count f) (plain-walk f o (w .kind)) (omega arith) (omega arith)) at-start r)

@@ -57,18 +57,18 @@ module _ (f : List ℕ) (accepted : judged f ≡ Accepted) (small : size (expans
 
   -- memories that hold a configuration of the run, and the reads before it
   module _ (k : Config) (x : Ending) (h : Ends (expansion-of f) (choices-of choices) k x) (m : after ≡ holding (layout-of f) k before) where
-    one-current : (s : Side) (c : ℕ) → c < cell-count (layout-of f) → k .state .held s c ≡ at (latest-write (layout-of f) (k .history) c) →
+    one-current : (s : Side) (c : ℕ) → c < cell-count (layout-of f) → k .state .cell c .held s ≡ at (latest-write (layout-of f) (k .history) c) →
         (getD (after .host) c 0 ≡ getD (after .latest) c 0) ⊎ (getD (after .card) c 0 ≡ getD (after .latest) c 0)
     unfolding declared-plan-of
     one-current s c l e =
         let n = cell-count (layout-of f) in
-        let latest = ap (λ (y : Lent). getD (y .latest) c 0) m ∙ held-at n (k .state .latest) (before .latest) c l ∙ tracked (carried (h .run)) .latest c in
+        let latest = ap (λ (y : Lent). getD (y .latest) c 0) m ∙ held-at n (λ c. k .state .cell c .latest) (before .latest) c l ∙ tracked (expansion-of f) (carried (expansion-of f) (h .run)) .latest c in
         go s e latest
       where
-        go : (s : Side) → k .state .held s c ≡ at (latest-write (layout-of f) (k .history) c) → getD (after .latest) c 0 ≡ latest-write (layout-of f) (k .history) c →
+        go : (s : Side) → k .state .cell c .held s ≡ at (latest-write (layout-of f) (k .history) c) → getD (after .latest) c 0 ≡ latest-write (layout-of f) (k .history) c →
             (getD (after .host) c 0 ≡ getD (after .latest) c 0) ⊎ (getD (after .card) c 0 ≡ getD (after .latest) c 0)
-        go host e u = inl (ap (λ (y : Lent). getD (y .host) c 0) m ∙ held-at _ (λ i. number-of (k .state .held host i)) (before .host) c l ∙ ap number-of e ∙ sym u)
-        go card e u = inr (ap (λ (y : Lent). getD (y .card) c 0) m ∙ held-at _ (λ i. number-of (k .state .held card i)) (before .card) c l ∙ ap number-of e ∙ sym u)
+        go host e u = inl (ap (λ (y : Lent). getD (y .host) c 0) m ∙ held-at _ (λ i. number-of (k .state .cell i .held host)) (before .host) c l ∙ ap number-of e ∙ sym u)
+        go card e u = inr (ap (λ (y : Lent). getD (y .card) c 0) m ∙ held-at _ (λ i. number-of (k .state .cell i .held card)) (before .card) c l ∙ ap number-of e ∙ sym u)
 
     kept : Kept f choices before after
     unfolding declared-plan-of

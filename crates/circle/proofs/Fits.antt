@@ -10,19 +10,20 @@ use lib.Dec.{ltb, leb, eqb}
 use lib.ListN.{length}
 use borrow.Author.Tests.{ltb-true, ltb-false, le-leb, ne-eqb}
 use Rattle.model.specs.declared.Verdict.the-variants.{Accepted}
-use Rattle.model.specs.Sides.{Side, Cells, span-of}
-use Rattle.model.specs.Effects.{Action, read, write, copy, need, mark}
+use Rattle.model.specs.Sides.{side-number, span-of}
+use Rattle.model.specs.Records.{Verb, read, write, copy, need, mark, Action}
 use Rattle.model.specs.Blocks.{Block, size}
 use Rattle.model.specs.Judging.{Declaration, Pass, no-pass, pass-of}
 use Rattle.model.specs.Expanding.{expand}
 use Rattle.model.proofs.Booleans.{and-out, and-in}
+use Rattle.model.proofs.Stamps.{as-verb}
 use Rattle.reading.specs.declared.Fields.{Fields}
 use Rattle.reading.specs.Bytes.{kind-of, array-count, body-count, table, length-at, layout-of, records-in, declarations-in, first-record, fields-at, between, lengths-of}
 use Rattle.rules.specs.Rules.{fields-fit, deepest}
 use Rattle.format.specs.Opening.{opening}
 use Rattle.format.specs.Plans.{action-of, declaration-of, pass-at, declared-plan-of}
-use Rattle.files.specs.Files.{side-number, action-fields}
-use Rattle.files.specs.Bounds.{all, arrays-fit, cells-fit, action-fits, block-fits, plain-fits}
+use Rattle.files.specs.Files.{action-fields}
+use Rattle.files.specs.Bounds.{all, arrays-fit, action-fits, block-fits, plain-fits}
 use Rattle.format.specs.Inner.Walks.{Good, block-between, body0-between}
 use Rattle.reading.proofs.Ranges.{in-range}
 use Rattle.reading.proofs.Tables.{length-table, arrays-counted, array-length, next-record}
@@ -56,30 +57,34 @@ all-called test e (p ∷ ps) (suc (suc b)) h = all-called test e ps (suc b) (and
 -- a record whose fields fit, as an action and as a declaration
 module _ (f : List ℕ) where
   -- what kinds 1 to 5 and 16 to 18 have in common
-  on-array : (side a : ℕ) (x y z : Bool) → (ltb side 2 && ltb a (array-count f) && x && y && z) ≡ true → ltb a (length (lengths-of f)) ≡ true
+  on-array : (side a : ℕ) (x y z : Bool) → (ltb side 2 && ltb a (array-count f) && x && y && z) ≡ true → (ltb a (length (lengths-of f)) ≡ true) × (y ≡ true) × (z ≡ true)
   on-array side a x y z e =
       let w₁ = and-out (ltb side 2 && ltb a (array-count f) && x && y) z e in
       let w₂ = and-out (ltb side 2 && ltb a (array-count f) && x) y (w₁ .0) in
       let w₃ = and-out (ltb side 2 && ltb a (array-count f)) x (w₂ .0) in
-      rw (arrays-counted f) (and-out (ltb side 2) (ltb a (array-count f)) (w₃ .0) .1)
+      (rw (arrays-counted f) (and-out (ltb side 2) (ltb a (array-count f)) (w₃ .0) .1), w₂ .1, w₁ .1)
 
   length-is : (a : ℕ) → ltb a (length (lengths-of f)) ≡ true → span-of (layout-of f) a .length ≡ length-at f a
   length-is a h = array-length f a (rw (arrays-counted f) at (ltb-true a (length (lengths-of f)) h))
 
-  ranged-fits : (s : Side) (x : Cells) → (ltb (side-number s) 2 && ltb (x .array) (array-count f) && true && ltb (x .p) (x .q) && leb (x .q) (length-at f (x .array))) ≡ true → cells-fit (layout-of f) x ≡ true
-  ranged-fits s x e =
-      let front = ltb (side-number s) 2 && ltb (x .array) (array-count f) && true in
-      let w = and-out (front && ltb (x .p) (x .q)) (leb (x .q) (length-at f (x .array))) e in
-      let a = on-array (side-number s) (x .array) true (ltb (x .p) (x .q)) _ e in
-      rw (length-is (x .array) a, a, and-out front (ltb (x .p) (x .q)) (w .0) .1, w .1)
-
   fields-action : (x : Action) → fields-fit f (action-fields x) ≡ true → action-fits (layout-of f) x ≡ true
   unfolding fields-fit
-  fields-action (read s x) e = ranged-fits s x e
-  fields-action (write s x) e = ranged-fits s x e
-  fields-action (copy s x) e = ranged-fits s x e
-  fields-action (need s a) e = on-array (side-number s) a true true true e
-  fields-action (mark s a) e = on-array (side-number s) a true true true e
+  fields-action x e = go (x .verb) e
+    where
+      ranged : (ltb (side-number (x .side)) 2 && ltb (x .name) (array-count f) && true && ltb (x .p) (x .q) && leb (x .q) (length-at f (x .name))) ≡ true →
+          (ltb (x .name) (length (lengths-of f)) && (ltb (x .p) (x .q) && leb (x .q) (span-of (layout-of f) (x .name) .length))) ≡ true
+      ranged u = let w = on-array (side-number (x .side)) (x .name) true (ltb (x .p) (x .q)) _ u in rw (length-is (x .name) (w .0), w .0, w .1, w .2)
+
+      unused : (ltb (side-number (x .side)) 2 && ltb (x .name) (array-count f) && true && eqb (x .p) 0 && eqb (x .q) 0) ≡ true →
+          (ltb (x .name) (length (lengths-of f)) && (eqb (x .p) 0 && eqb (x .q) 0)) ≡ true
+      unused u = let w = on-array (side-number (x .side)) (x .name) true (eqb (x .p) 0) _ u in rw (w .0, w .1, w .2)
+
+      go : (v : Verb) → fields-fit f (action-fields (as-verb v x)) ≡ true → action-fits (layout-of f) (as-verb v x) ≡ true
+      go read u = ranged u
+      go write u = ranged u
+      go copy u = ranged u
+      go need u = unused u
+      go mark u = unused u
 
   module _ (x : Fields) (fits : fields-fit f x ≡ true) where
     action-fit : 1 ≤ x .kind → x .kind ≤ 5 → action-fits (layout-of f) (action-of x) ≡ true
@@ -89,7 +94,7 @@ module _ (f : List ℕ) where
     unfolding declaration-of
     declaration-fit h k =
         on-array (x .side) (x .array) (eqb (x .zero) 0) (eqb (x .p) 0) (eqb (x .q) 0)
-        (fit-declaration f x _ _ _ (record { arrays-are = refl; bodies-are = refl; size-is = refl }) h k ∙ fits)
+        (fit-declaration f x _ _ _ (record { arrays-are = refl; bodies-are = refl; size-is = refl }) h k ∙ fits) .0
 
 -- the blocks made of the records of body b of a declared plan, from record `low` on, record by record; `most` levels are allowed in all
 module _ (f : List ℕ) (kind : kind-of f ≡ 1) (b low most : ℕ) (enough : 8 ≤ most) (block : ℕ → ℕ → Block) where

@@ -61,9 +61,9 @@ module _ (layout : Layout) where
 
   -- "R gives need; W gives mark; RW gives need, mark"
   given-fits : (m : Mode) (s : Side) (a : ℕ) (b : Block) (n : ℕ) → ltb a (length (layout .lengths)) ≡ true → block-fits layout n b ≡ true → block-fits layout n (given m s a b) ≡ true
-  given-fits R s a b n e h = and-in _ _ e h
-  given-fits W s a b n e h = and-in _ _ e h
-  given-fits RW s a b n e h = and-in _ _ e (and-in _ _ e h)
+  given-fits R s a b n e h = rw e h
+  given-fits W s a b n e h = rw e h
+  given-fits RW s a b n e h = rw e h
 
   pub declared-fits : (ds : List Declaration) (b : Block) (n : ℕ) → all (λ (d : Declaration). ltb (d .array) (length (layout .lengths))) ds ≡ true → block-fits layout n b ≡ true → block-fits layout n (declared ds b) ≡ true
   declared-fits [] b n e h = h

@@ -9,8 +9,8 @@ use Rattle.model.specs.declared.Verdict.{Verdict}
 use Rattle.model.specs.declared.Record.{Record}
 use Rattle.model.specs.declared.Cell.{Cell}
 use Rattle.model.specs.declared.Verdict.the-variants.{Accepted, Stopped, Refused}
-use Rattle.model.specs.Sides.{Side, at, cell-count, Cells, within}
-use Rattle.model.specs.Effects.{read}
+use Rattle.model.specs.Sides.{at, cell-count}
+use Rattle.model.specs.Records.{read, Action, covers}
 use Rattle.model.specs.Blocks.{Block, act}
 use Rattle.model.specs.Runs.{Config, Ending, finished, Run, Ends}
 use Rattle.model.specs.Demand.{latest-write, moved-cells, Moves}
@@ -51,8 +51,8 @@ pub record Kept (f choices : List ℕ) (before after : Lent) : Type 0 where
   pub current : (c : ℕ) → c < cell-count (layout-of f) →
       (getD (after .host) c 0 ≡ getD (after .latest) c 0) ⊎ (getD (after .card) c 0 ≡ getD (after .latest) c 0)
   -- each read that the run came to got, in each of its cells, the stamp of the latest write
-  pub reads : (k : Config) → Run (expansion-of f) (choices-of choices) k → (r : ℕ) (s : Side) (x : Cells) (b : Block) → k .left ≡ act r (read s x) b →
-      (c : ℕ) → c < cell-count (layout-of f) → within (layout-of f) x c ≡ true → k .state .held s c ≡ at (latest-write (layout-of f) (k .history) c)
+  pub reads : (k : Config) → Run (expansion-of f) (choices-of choices) k → (r : ℕ) (x : Action) (b : Block) → k .left ≡ act r x b → x .verb ≡ read →
+      (c : ℕ) → c < cell-count (layout-of f) → covers (layout-of f) x c ≡ true → k .state .cell c .held (x .side) ≡ at (latest-write (layout-of f) (k .history) c)
 
 -- what is claimed of a run of the expansion's file, whatever the choices and the lent memories
 pub record ExpansionRun (f choices : List ℕ) (before after : Lent) (answer : End) : Type 0 where

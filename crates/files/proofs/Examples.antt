@@ -5,7 +5,7 @@ use Prim.Native.Nat.{ℕ}
 use Rattle.model.specs.Lists.{sum-before}
 use Rattle.model.specs.declared.Verdict.the-variants.{Accepted}
 use Rattle.model.specs.Sides.{card}
-use Rattle.model.specs.Effects.{read}
+use Rattle.model.specs.Records.{read}
 use Rattle.model.specs.Blocks.{Block, Plan}
 use Rattle.model.specs.Rows.{first, each}
 use Rattle.reading.specs.Bytes.{u16-at, table, length-at, entry-at, sizes-of, fields-at, first-arm, second-arm, lengths-of}
@@ -23,7 +23,7 @@ bytes : List ℕ
 bytes = 0x02 ∷ 0x01 ∷ 0x01 ∷ 0x00 ∷ 0x01 ∷ 0x00 ∷ 0x01 ∷ 0x00 ∷ 0x00 ∷ 0x00 ∷ 0x01 ∷ 0x01 ∷ 0x00 ∷ 0x00 ∷ 0x00 ∷ 0x00 ∷ 0x01 ∷ 0x00 ∷ 0x09 ∷ 0x3B ∷ []
 
 plan : Plan
-plan = record { layout = record { lengths = 1 ∷ [] }; body = Block.act 0 (read card (record { array = 0; p = 0; q = 1 })) Block.done }
+plan = record { layout = record { lengths = 1 ∷ [] }; body = Block.act 0 (record { verb = read; side = card; name = 0; p = 0; q = 1 }) Block.done }
 
 opens : opening bytes ≡ Accepted
 unfolding bytes first each u16-at length-at table lengths-of entry-at sizes-of fields-at sum-before plain-sum weighted-sum header-fits header-rows array-rows body-rows contents-rows checks-fit tail-rows fields-fit allowed first-arm second-arm deepest record-rows block-rows records-rows front-rows open-rows opening

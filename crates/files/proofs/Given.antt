@@ -8,13 +8,14 @@ use native.Mathlib.Numerals.{add-one}
 use native.Mathlib.Omega.{arith}
 use lib.Dec.{eqb}
 use lib.ListN.{length-append}
+use Rattle.model.specs.Sides.{side-number}
 use Rattle.model.specs.Blocks.{Block, size}
 use Rattle.model.specs.Judging.{R, W, RW}
 use Rattle.model.specs.Expanding.{given}
 use Rattle.reading.specs.declared.Fields.{Fields}
 use Rattle.reading.specs.Bytes.{table, fields-at}
 use Rattle.format.specs.Plans.{side-of, declaration-of}
-use Rattle.files.specs.Files.{side-number, block-fields}
+use Rattle.files.specs.Files.{block-fields}
 use Rattle.files.specs.Inner.Given.{given-by, declared-from}
 use Rattle.files.proofs.Files.Records.{fields-count}
 use Rattle.files.proofs.Blocks.{same-size, declared-next}

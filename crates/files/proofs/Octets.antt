@@ -1,15 +1,15 @@
 -- The file of a plan within the bounds is a list of bytes: each entry is below 256.
 use mathlib.Core.Path.{_≡_}
-use mathlib.Core.Bool.{true, _&&_, false≢true}
+use mathlib.Core.Bool.{Bool, true, false, cond, _&&_, false≢true}
 use mathlib.Core.List.{List, [], _∷_, _++_, map}
 use Prim.Native.Nat.{ℕ, zero, suc, _+_, _≤_, _<_}
 use native.Mathlib.Omega.{arith}
 use lib.ListN.{length, length-map}
-use lib.Dec.{ltb, leb}
-use borrow.Author.Tests.{ltb-true, leb-true}
+use lib.Dec.{ltb, leb, eqb}
+use borrow.Author.Tests.{ltb-true, leb-true, eqb-true}
 use Rattle.model.specs.Lists.{All, sum}
-use Rattle.model.specs.Sides.{Side, host, card, Cells, span-of, Layout, cell-count}
-use Rattle.model.specs.Effects.{Action, read, write, copy, need, mark}
+use Rattle.model.specs.Sides.{Side, host, card, side-number, span-of, Layout, cell-count}
+use Rattle.model.specs.Records.{Verb, read, write, copy, need, mark, kind, whole, Action}
 use Rattle.model.specs.Blocks.{Block, size, Plan}
 use Rattle.model.specs.Judging.{Mode, R, W, RW, Declaration, Pass, Body0, DeclaredPlan}
 use Rattle.model.proofs.Booleans.{and-out}
@@ -17,7 +17,7 @@ use Rattle.model.proofs.Numbering.{array-ends}
 use Rattle.reading.specs.declared.Fields.{Fields}
 use Rattle.sums.specs.Sums.{check-bytes}
 use Rattle.reading.specs.Bytes.{between}
-use Rattle.files.specs.Files.{u16-bytes, record-bytes, side-number, fields, action-fields, block-fields, size0, body0-fields, mode-kind, declaration-fields, Body, entry-bytes, joined, front, file, plain-file, pass-body, declared-file}
+use Rattle.files.specs.Files.{u16-bytes, record-bytes, fields, action-fields, block-fields, size0, body0-fields, mode-kind, declaration-fields, Body, entry-bytes, joined, front, file, plain-file, pass-body, declared-file}
 use Rattle.files.specs.Bounds.{all, arrays-fit, cells-fit, action-fits, block-fits, body0-fits, plain-fits, pass-fits, passes-size, declared-fits}
 use Rattle.files.specs.Claims.{Bytes}
 use Rattle.files.proofs.Files.Places.{body-size}
@@ -85,6 +85,13 @@ side-small : (s : Side) → side-number s < 256
 side-small host = omega arith
 side-small card = omega arith
 
+kind-small : (v : Verb) → kind v < 256
+kind-small read = omega arith
+kind-small write = omega arith
+kind-small copy = omega arith
+kind-small need = omega arith
+kind-small mark = omega arith
+
 mode-small : (m : Mode) → mode-kind m < 256
 mode-small R = omega arith
 mode-small W = omega arith
@@ -101,26 +108,23 @@ lengths-small (n ∷ l) h = (omega arith, lengths-small l (omega arith))
 small : (kind side array p q : ℕ) → kind < 256 → side < 256 → array < 256 → p < 65536 → q < 65536 → Small (fields kind side array p q)
 small kind side array p q h0 h1 h2 h3 h4 = record { kind = h0; side = h1; array = h2; last = omega arith; p = h3; q = h4 }
 
-module _ (layout : Layout) (few : length (layout .lengths) ≤ 32) (total : cell-count layout ≤ 4096) where
-  cells-small : (kind : ℕ) (s : Side) (x : Cells) → kind < 256 → cells-fit layout x ≡ true → Small (fields kind (side-number s) (x .array) (x .p) (x .q))
-  cells-small kind s x k e =
-      let h = and-out (ltb (x .array) (length (layout .lengths))) (ltb (x .p) (x .q) && leb (x .q) (span-of layout (x .array) .length)) e in
-      let h′ = and-out (ltb (x .p) (x .q)) (leb (x .q) (span-of layout (x .array) .length)) (h .1) in
-      let a : x .array < length (layout .lengths) = ltb-true _ _ (h .0) in
-      let p : x .p < x .q = ltb-true _ _ (h′ .0) in
-      let q : x .q ≤ span-of layout (x .array) .length = leb-true _ _ (h′ .1) in
-      let n = length-small layout (x .array) in
-      small kind (side-number s) (x .array) (x .p) (x .q) k (side-small s) (omega arith) (omega arith) (omega arith)
+-- P and Q, of the whole array or not
+cells-small : (w : Bool) (p q n : ℕ) → n ≤ 4096 → cond w (eqb p 0 && eqb q 0) (ltb p q && leb q n) ≡ true → (p < 65536) × (q < 65536)
+cells-small true p q n h e = let k = and-out (eqb p 0) (eqb q 0) e in (omega (arith, eqb-true p 0 (k .0)), omega (arith, eqb-true q 0 (k .1)))
+cells-small false p q n h e =
+    let k = and-out (ltb p q) (leb q n) e in
+    let below = leb-true q n (k .1) in
+    (omega (arith, ltb-true p q (k .0)), omega arith)
 
-  array-small : (kind : ℕ) (s : Side) (a : ℕ) → kind < 256 → ltb a (length (layout .lengths)) ≡ true → Small (fields kind (side-number s) a 0 0)
-  array-small kind s a k e = let h : a < length (layout .lengths) = ltb-true _ _ e in small kind (side-number s) a 0 0 k (side-small s) (omega arith) (omega arith) (omega arith)
+module _ (layout : Layout) (few : length (layout .lengths) ≤ 32) (total : cell-count layout ≤ 4096) where
+  array-small : (kind : ℕ) (s : Side) (a p q : ℕ) → kind < 256 → ltb a (length (layout .lengths)) ≡ true → p < 65536 → q < 65536 → Small (fields kind (side-number s) a p q)
+  array-small kind s a p q k e = let h : a < length (layout .lengths) = ltb-true _ _ e in small kind (side-number s) a p q k (side-small s) (omega arith)
 
   action-small : (x : Action) → action-fits layout x ≡ true → Small (action-fields x)
-  action-small (read s x) e = cells-small 1 s x (omega arith) e
-  action-small (write s x) e = cells-small 2 s x (omega arith) e
-  action-small (copy s x) e = cells-small 3 s x (omega arith) e
-  action-small (need s a) e = array-small 4 s a (omega arith) e
-  action-small (mark s a) e = array-small 5 s a (omega arith) e
+  action-small x e =
+      let h = and-out (ltb (x .name) (length (layout .lengths))) (cells-fit layout x) e in
+      let c = cells-small (whole (x .verb)) (x .p) (x .q) (span-of layout (x .name) .length) (omega (arith, length-small layout (x .name))) (h .1) in
+      array-small (kind (x .verb)) (x .side) (x .name) (x .p) (x .q) (kind-small (x .verb)) (h .0) (c .0) (c .1)
 
   block-small : (x : Block) (levels : ℕ) → block-fits layout levels x ≡ true → size x ≤ 1024 → All Small (block-fields x)
   block-small Block.done levels e h = tt
@@ -146,7 +150,7 @@ module _ (layout : Layout) (few : length (layout .lengths) ≤ 32) (total : cell
   declarations-small [] e = tt
   declarations-small (d ∷ ds) e =
       let fit = and-out (ltb (d .array) (length (layout .lengths))) (all (λ (c : Declaration). ltb (c .array) (length (layout .lengths))) ds) e in
-      (array-small (mode-kind (d .mode)) (d .side) (d .array) (mode-small (d .mode)) (fit .0), declarations-small ds (fit .1))
+      (array-small (mode-kind (d .mode)) (d .side) (d .array) 0 0 (mode-small (d .mode)) (fit .0) (omega arith) (omega arith), declarations-small ds (fit .1))
 
   passes-told : (ps : List Pass) → all (pass-fits layout) ps ≡ true → passes-size ps ≤ 1024 → All Told (map pass-body ps)
   passes-told [] e h = tt

@@ -1,11 +1,11 @@
 -- The plans that a file can hold (document 01, 'The plan file'): its bounds, said of plans.
 use Prim.Native.Nat.{ℕ, zero, suc, _+_}
-use mathlib.Core.Bool.{Bool, true, false, _&&_}
+use mathlib.Core.Bool.{Bool, true, false, cond, _&&_}
 use mathlib.Core.List.{List, [], _∷_}
 use lib.ListN.{length}
-use lib.Dec.{ltb, leb}
-use Rattle.model.specs.Sides.{span-of, Cells, Layout, cell-count}
-use Rattle.model.specs.Effects.{Action, read, write, copy, need, mark}
+use lib.Dec.{ltb, leb, eqb}
+use Rattle.model.specs.Sides.{span-of, Layout, cell-count}
+use Rattle.model.specs.Records.{whole, Action}
 use Rattle.model.specs.Blocks.{Block, size, numbered, Plan}
 use Rattle.model.specs.Judging.{Declaration, Pass, Body0, DeclaredPlan}
 use Rattle.reading.specs.Bytes.{between}
@@ -20,17 +20,13 @@ all g (x ∷ l) = g x && all g l
 abbrev pub arrays-fit : Layout → Bool
 arrays-fit layout = between 1 32 (length (layout .lengths)) && (all (between 1 4096) (layout .lengths) && leb (cell-count layout) 4096)
 
--- "cells P to Q − 1 of the array, P < Q ≤ its length"
-abbrev pub cells-fit : Layout → Cells → Bool
-cells-fit layout x = ltb (x .array) (length (layout .lengths)) && (ltb (x .p) (x .q) && leb (x .q) (span-of layout (x .array) .length))
+-- a record's P and Q: "cells P to Q − 1 of the array, P < Q ≤ its length"; where it speaks of the whole array, "Unused fields are zero."
+abbrev pub cells-fit : Layout → Action → Bool
+cells-fit layout x = cond (whole (x .verb)) (eqb (x .p) 0 && eqb (x .q) 0) (ltb (x .p) (x .q) && leb (x .q) (span-of layout (x .name) .length))
 
--- the fields of kinds 1 to 5: cells of an array, or the array alone
+-- the fields of kinds 1 to 5: the array, then P and Q
 abbrev pub action-fits : Layout → Action → Bool
-action-fits layout (read s x) = cells-fit layout x
-action-fits layout (write s x) = cells-fit layout x
-action-fits layout (copy s x) = cells-fit layout x
-action-fits layout (need s a) = ltb a (length (layout .lengths))
-action-fits layout (mark s a) = ltb a (length (layout .lengths))
+action-fits layout x = ltb (x .name) (length (layout .lengths)) && cells-fit layout x
 
 -- a block in which branches and loops stand at most `levels` deep: 16 in a plain plan ("inside at most 15 others"), 8 in a body of a declared plan
 abbrev pub block-fits : Layout → ℕ → Block → Bool

@@ -2,8 +2,8 @@
 use Prim.Native.Nat.{ℕ, zero, suc, _+_, _/_, _%_}
 use mathlib.Core.List.{List, [], _∷_, _++_, map}
 use lib.ListN.{length}
-use Rattle.model.specs.Sides.{Side, host, card, Layout}
-use Rattle.model.specs.Effects.{Action, read, write, copy, need, mark}
+use Rattle.model.specs.Sides.{side-number, Layout}
+use Rattle.model.specs.Records.{kind, Action}
 use Rattle.model.specs.Blocks.{Block, size, Plan}
 use Rattle.model.specs.Judging.{Mode, R, W, RW, Declaration, Pass, Body0, DeclaredPlan}
 use Rattle.reading.specs.declared.Fields.{Fields}
@@ -17,22 +17,13 @@ u16-bytes n = n % 256 ∷ n / 256 ∷ []
 abbrev pub record-bytes : Fields → List ℕ
 record-bytes x = x .kind ∷ x .side ∷ x .array ∷ x .zero ∷ (u16-bytes (x .p) ++ u16-bytes (x .q))
 
--- "Side 0 is the host, side 1 the card."
-abbrev pub side-number : Side → ℕ
-side-number host = 0
-side-number card = 1
-
 -- a record from its fields, the fourth byte zero
 abbrev pub fields : ℕ → ℕ → ℕ → ℕ → ℕ → Fields
 fields kind side array p q = record { kind = kind; side = side; array = array; zero = 0; p = p; q = q }
 
 -- "1 read, 2 write, 3 copy .. 4 need, 5 mark"
 abbrev pub action-fields : Action → Fields
-action-fields (read s x) = fields 1 (side-number s) (x .array) (x .p) (x .q)
-action-fields (write s x) = fields 2 (side-number s) (x .array) (x .p) (x .q)
-action-fields (copy s x) = fields 3 (side-number s) (x .array) (x .p) (x .q)
-action-fields (need s a) = fields 4 (side-number s) a 0 0
-action-fields (mark s a) = fields 5 (side-number s) a 0 0
+action-fields x = fields (kind (x .verb)) (side-number (x .side)) (x .name) (x .p) (x .q)
 
 -- "6 branch: P records of the first arm, then Q of the second. 7 loop: P records."
 abbrev pub block-fields : Block → List Fields

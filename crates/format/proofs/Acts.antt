@@ -9,7 +9,7 @@ use native.Mathlib.Omega.{arith}
 use lib.Dec.{eqb, ltb}
 use lib.ListN.{length}
 use borrow.Author.Tests.{eq-eqb, ne-eqb, ltb-true, leb-true}
-use Rattle.model.specs.Effects.{Action, read, write, copy, need, mark}
+use Rattle.model.specs.Records.{Verb, read, write, copy, need, mark, Action}
 use Rattle.model.proofs.Booleans.{and-out}
 use Rattle.reading.specs.declared.Fields.{Fields}
 use Rattle.reading.specs.Bytes.{kind-of, array-count, body-count, length-at, record-count, fields-at, first-arm, second-arm}
@@ -93,14 +93,15 @@ after-act {r = r} {x = x} s k =
     let n : r + 1 + first-arm x + second-arm x ≡ r + 1 = omega (arith, a) in
     rw n at (s .rest)
 
+-- a record's fields with this verb
+abbrev pub acting : Verb → Fields → Action
+acting v x = record { verb = v; side = side-of (x .side); name = x .array; p = x .p; q = x .q }
+
 -- the action of a record of kind 1 to 5, kind by kind
 module _ (x : Fields) (h : (1 ≤ x .kind) × (x .kind ≤ 5)) where
   pub by-kind : (P : Action → Type 0) →
-      (x .kind ≡ 1 → P (read (side-of (x .side)) (record { array = x .array; p = x .p; q = x .q }))) →
-      (x .kind ≡ 2 → P (write (side-of (x .side)) (record { array = x .array; p = x .p; q = x .q }))) →
-      (x .kind ≡ 3 → P (copy (side-of (x .side)) (record { array = x .array; p = x .p; q = x .q }))) →
-      (x .kind ≡ 4 → P (need (side-of (x .side)) (x .array))) →
-      (x .kind ≡ 5 → P (mark (side-of (x .side)) (x .array))) →
+      (x .kind ≡ 1 → P (acting read x)) → (x .kind ≡ 2 → P (acting write x)) → (x .kind ≡ 3 → P (acting copy x)) →
+      (x .kind ≡ 4 → P (acting need x)) → (x .kind ≡ 5 → P (acting mark x)) →
       P (action-of x)
   unfolding action-of
   by-kind P a b d e g = elim (ℕᴺ-discrete (x .kind) 1) [

@@ -3,8 +3,8 @@ use Prim.Native.Nat.{ℕ, zero, suc, _+_, _-_}
 use mathlib.Core.Bool.{cond}
 use mathlib.Core.List.{List}
 use lib.Dec.{ltb, eqb}
-use Rattle.model.specs.Sides.{Side, host, card, Cells}
-use Rattle.model.specs.Effects.{Action, read, write, copy, need, mark}
+use Rattle.model.specs.Sides.{Side, host, card}
+use Rattle.model.specs.Records.{Verb, read, write, copy, need, mark, Action}
 use Rattle.model.specs.Blocks.{Block, Plan}
 use Rattle.model.specs.Judging.{R, W, RW, Declaration, Pass, Body0, DeclaredPlan}
 use Rattle.reading.specs.declared.Fields.{Fields}
@@ -14,16 +14,13 @@ use Rattle.reading.specs.Bytes.{body-count, table, layout-of, records-in, decla
 abbrev pub side-of : ℕ → Side
 side-of s = cond (eqb s 0) host card
 
--- "1 read, 2 write, 3 copy: cells P to Q − 1 of the array", "4 need, 5 mark: side and array"
+-- "1 read, 2 write, 3 copy", "4 need, 5 mark"
+abbrev pub verb-of : ℕ → Verb
+verb-of k = cond (eqb k 1) read (cond (eqb k 2) write (cond (eqb k 3) copy (cond (eqb k 4) need mark)))
+
+-- a record of kinds 1 to 5, by its fields
 unfoldable pub action-of : Fields → Action
-action-of x =
-    let s = side-of (x .side) in
-    let these : Cells = record { array = x .array; p = x .p; q = x .q } in
-    cond (eqb (x .kind) 1) (read s these)
-    (cond (eqb (x .kind) 2) (write s these)
-    (cond (eqb (x .kind) 3) (copy s these)
-    (cond (eqb (x .kind) 4) (need s (x .array))
-    (mark s (x .array)))))
+action-of x = record { verb = verb-of (x .kind); side = side-of (x .side); name = x .array; p = x .p; q = x .q }
 
 -- "16 R, 17 W, 18 RW: side and array"
 unfoldable pub declaration-of : Fields → Declaration

@@ -11,16 +11,18 @@ use lib.Dec.{eqb}
 use borrow.Author.Tests.{lt-ltb, le-ltb, eq-eqb, ne-eqb, eqb-true, not-false, not-true}
 use Rattle.model.specs.declared.Verdict.the-variants.{Accepted}
 use Rattle.model.specs.Lists.{All}
-use Rattle.model.specs.Sides.{Side, span-of, Cells}
-use Rattle.model.specs.Effects.{copy, need, mark}
-use Rattle.model.specs.Judging.{R, W, RW, Declaration, permits, every, declared-once, Written, Rules}
+use Rattle.model.specs.Sides.{span-of}
+use Rattle.model.specs.Records.{copy, need, mark}
+use Rattle.model.specs.Judging.{R, W, RW, Declaration, declares, permits, every, declared-once, Written, Rules}
 use Rattle.reading.specs.declared.Fields.{Fields}
 use Rattle.model.specs.Rows.{row, first, each}
 use Rattle.reading.specs.Bytes.{kind-of, body-count, layout-of, records-in, declarations-in, first-record, bodies-at, fields-at, between}
 use Rattle.format.specs.Opening.{open-rows, opening}
 use Rattle.format.specs.Plans.{side-of, action-of, declaration-of, pass-at, declared-plan-of}
+use Rattle.format.proofs.Acts.{acting}
 use Rattle.reading.proofs.Ranges.{in-range, out-of-range}
 use Rattle.model.proofs.Booleans.{and-out}
+use Rattle.model.proofs.Demand.Declarations.{barred}
 use Rattle.model.proofs.Rows.{holds, held, skips, skipped, empty, pass, passed}
 use Rattle.passes.specs.declared.Extent.{Extent}
 use Rattle.permits.specs.Permits.{declared-before, record-rows}
@@ -39,14 +41,17 @@ pub mod Blocks
 pub mod Ways
 
 -- "Kinds 3, 4, 5 are barred."
-barred : (ds : List Declaration) (x : Fields) → 3 ≤ x .kind → permits ds (action-of x) ≡ false
+kind-barred : (ds : List Declaration) (x : Fields) → 3 ≤ x .kind → permits ds (action-of x) ≡ false
 unfolding action-of
-barred ds x h = rw (ne-eqb (x .kind) 1 (λ z. omega arith), ne-eqb (x .kind) 2 (λ z. omega arith)) (go (eqb (x .kind) 3) (eqb (x .kind) 4) (side-of (x .side)) (record { array = x .array; p = x .p; q = x .q }))
+kind-barred ds x h = rw (ne-eqb (x .kind) 1 (λ z. omega arith), ne-eqb (x .kind) 2 (λ z. omega arith)) (go (eqb (x .kind) 3) (eqb (x .kind) 4))
   where
-    go : (i j : Bool) (t : Side) (these : Cells) → permits ds (cond i (copy t these) (cond j (need t (these .array)) (mark t (these .array)))) ≡ false
-    go true j t these = refl
-    go false true t these = refl
-    go false false t these = refl
+    none : declares (λ m. false) (side-of (x .side)) (x .array) ds ≡ false
+    none = barred (side-of (x .side)) (x .array) ds
+
+    go : (i j : Bool) → permits ds (acting (cond i copy (cond j need mark)) x) ≡ false
+    go true j = none
+    go false true = none
+    go false false = none
 
 w-kind : (k : ℕ) → (cond (eqb k 16) R (cond (eqb k 17) W RW) ≡ W) ↔ (k ≡ 17)
 w-kind k = elim (ℕᴺ-discrete k 17) [
@@ -69,7 +74,7 @@ use-kept ds x r low high = elim (decLt (x .kind) 3) [
   )
   | no h ↦ (
     λ e p q. absurd (true≢false (sym (in-range 3 5 (x .kind) (omega arith) (below p q)) ∙ skipped _ _ _ _ (skipped _ _ _ _ e .1) .0)),
-    λ t. skips _ _ _ _ _ (rw (out-of-range 1 2 (x .kind) (λ u v. omega arith))) (skips _ _ _ _ _ (out-of-range 3 5 (x .kind) (λ u v. true≢false (sym (t (λ z. omega arith) (λ z. omega arith)) ∙ barred ds x u))) empty),
+    λ t. skips _ _ _ _ _ (rw (out-of-range 1 2 (x .kind) (λ u v. omega arith))) (skips _ _ _ _ _ (out-of-range 3 5 (x .kind) (λ u v. true≢false (sym (t (λ z. omega arith) (λ z. omega arith)) ∙ kind-barred ds x u))) empty),
   )
 ]
   where

@@ -36,7 +36,7 @@ use Rattle.standing.specs.Choices.{choices-of}
 use Rattle.memories.specs.Inner.Ranges.{Room, Same}
 use Rattle.known.specs.Inner.Knowing.{Sure}
 use Rattle.known.proofs.Sets.{knows-sure}
-use Rattle.acts.specs.Inner.Acting.{Rooms, Low, ArrayAt, Spans, Holds, Acts}
+use Rattle.acts.specs.Inner.Acting.{Rooms, Low, CellsAt, ArrayAt, Holds, Acts}
 use Rattle.places.specs.Inner.Places.{Spot, skipped, into, settled, chosen, rest-of, left-of, weight, Part, Placed}
 use Rattle.standing.specs.Inner.Standing.{Runner, stored-with, tally-with, past-record, ended-with, moved-to, after-act, tally-after, tested, measure, next-record, said-of, Stands, StepsAs, Steps, Stood, Reaches}
 use Rattle.reading.specs.Inner.Cells.{from-of, to-of}
@@ -95,7 +95,7 @@ pub record Able (layout : Layout) (x : Fields) (first next from to : ℕ) (s : S
   pub sure : Sure (s .known) (x .array) from to own others latest
   pub rooms : Rooms from to own others latest
   pub inside : to ≤ cell-count layout
-  pub spans : Spans layout (action-of x) from to
+  pub spans : CellsAt layout (action-of x) from to
   pub whole : (eqb from first && eqb to next) ≡ true → ArrayAt layout (x .array) from to
   pub few : at < 1024
 

@@ -9,23 +9,23 @@ use lib.Dec.{eqb}
 use lib.ListN.{length, getD}
 use borrow.Author.Tests.{eq-eqb, ne-eqb, le-leb}
 use Rattle.model.specs.Inner.Holders.{array-of}
-use Rattle.model.specs.Sides.{Side, is, Layout, span-of, Cells, within}
-use Rattle.model.specs.Effects.{read, copy, need, mark}
+use Rattle.model.specs.Sides.{Side, same-side, Layout, span-of}
+use Rattle.model.specs.Records.{read, write, copy, need, mark, covers}
 use Rattle.model.specs.Judging.{writes-cell}
-use Rattle.model.proofs.Numbering.{array-ends, within-array, within-range}
+use Rattle.model.proofs.Numbering.{array-ends, covers-array, covers-range}
 use Rattle.reading.specs.declared.Fields.{Fields}
 use Rattle.reading.specs.Bytes.{array-count, layout-of, fields-at, first-arm, second-arm}
 use Rattle.format.specs.Plans.{side-of, action-of}
 use Rattle.format.specs.Inner.Walks.{Walkable}
 use Rattle.format.proofs.Walking.{steps}
-use Rattle.format.proofs.Acts.{cells-fit, Arms, arms}
+use Rattle.format.proofs.Acts.{cells-fit, Arms, arms, acting}
 use Rattle.reading.proofs.Tables.{array-length}
 use Rattle.format.proofs.Trees.{block-none, block-branch, block-loop, block-act}
 use Rattle.marks.specs.Inner.Marks.{marked, Adds, Tables, hits, always}
 
 -- a side, by its number in the file
-pub same-side : (s t : ℕ) → s < 2 → t < 2 → is (side-of s) (side-of t) ≡ eqb s t
-same-side s t h k = elim (ℕᴺ-discrete s 0) [
+pub sides-agree : (s t : ℕ) → s < 2 → t < 2 → same-side (side-of s) (side-of t) ≡ eqb s t
+sides-agree s t h k = elim (ℕᴺ-discrete s 0) [
   | yes u ↦ elim (ℕᴺ-discrete t 0) [ yes v ↦ rw (u, v) | no v ↦ let w : t ≡ 1 = omega arith in rw (u, w) ]
   | no u ↦ let z : s ≡ 1 = omega arith in elim (ℕᴺ-discrete t 0) [ yes v ↦ rw (z, v) | no v ↦ let w : t ≡ 1 = omega arith in rw (z, w) ]
 ]
@@ -33,13 +33,13 @@ same-side s t h k = elim (ℕᴺ-discrete s 0) [
 -- a record that is no write writes no cell
 no-write : (layout : Layout) (s : Side) (c : ℕ) (x : Fields) → (x .kind ≡ 2 → ⊥) → writes-cell layout s c (action-of x) ≡ false
 unfolding action-of
-no-write layout s c x h = rw (ne-eqb (x .kind) 2 h) (go (eqb (x .kind) 1) (eqb (x .kind) 3) (eqb (x .kind) 4) (side-of (x .side)) (record { array = x .array; p = x .p; q = x .q }))
+no-write layout s c x h = rw (ne-eqb (x .kind) 2 h) (go (eqb (x .kind) 1) (eqb (x .kind) 3) (eqb (x .kind) 4))
   where
-    go : (i j k : Bool) (t : Side) (these : Cells) → writes-cell layout s c (cond i (read t these) (cond j (copy t these) (cond k (need t (these .array)) (mark t (these .array))))) ≡ false
-    go true j k t these = refl
-    go false true k t these = refl
-    go false false true t these = refl
-    go false false false t these = refl
+    go : (i j k : Bool) → writes-cell layout s c (acting (cond i read (cond j copy (cond k need mark))) x) ≡ false
+    go true j k = refl
+    go false true k = refl
+    go false false true = refl
+    go false false false = refl
 
 -- record r of a block that ends before record `end`, with the fields x and arms of i and j records
 pub record RecordAt (f : List ℕ) (r end : ℕ) (x : Fields) (i j : ℕ) : Type 0 where
@@ -84,13 +84,13 @@ module _ (f starts sides : List ℕ) (t : Tables f starts sides) where
       write-fits = (omega (arith, fits .1, t .arrays-low), fits .2, rw (t .starts-are (x .array) (omega (arith, fits .1))) (omega (arith, fits .3, array-ends (layout-of f) (x .array), t .cells-low)))
 
       -- the side for the array of a cell of the record is the side for the record's array
-      write-side : (c : ℕ) (w : Bool) → within (layout-of f) (record { array = x .array; p = x .p; q = x .q }) c ≡ w → (is (side-of (x .side)) (side-at c) && w) ≡ (eqb (x .side) (getD sides (x .array) 0) && w)
-      write-side c false e = and-false (is (side-of (x .side)) (side-at c)) ∙ sym (and-false (eqb (x .side) (getD sides (x .array) 0)))
-      write-side c true e = rw (within-array (layout-of f) _ c e, same-side (x .side) (getD sides (x .array) 0) (fits .0) (t .sides-low (x .array) (write-fits .0)))
+      write-side : (c : ℕ) (w : Bool) → covers (layout-of f) (acting write x) c ≡ w → (same-side (side-of (x .side)) (side-at c) && w) ≡ (eqb (x .side) (getD sides (x .array) 0) && w)
+      write-side c false e = and-false (same-side (side-of (x .side)) (side-at c)) ∙ sym (and-false (eqb (x .side) (getD sides (x .array) 0)))
+      write-side c true e = rw (covers-array (layout-of f) _ c e, sides-agree (x .side) (getD sides (x .array) 0) (fits .0) (t .sides-low (x .array) (write-fits .0)))
 
       write-hits : (c : ℕ) → writes-cell (layout-of f) (side-at c) c (action-of x) ≡ hits starts sides x c
       unfolding action-of hits
-      write-hits c = rw (ne-eqb (x .kind) 1 (λ z. omega arith), eq-eqb (x .kind) 2 k, le-leb (x .kind) 3 (omega arith), write-side c _ refl, within-range (layout-of f) (record { array = x .array; p = x .p; q = x .q }) c (fits .3), t .starts-are (x .array) (omega (arith, fits .1)))
+      write-hits c = rw (ne-eqb (x .kind) 1 (λ z. omega arith), eq-eqb (x .kind) 2 k, le-leb (x .kind) 3 (omega arith), write-side c _ refl, covers-range (layout-of f) (acting write x) c refl (fits .3), t .starts-are (x .array) (omega (arith, fits .1)))
 
     record-hits : (c : ℕ) → writes-cell (layout-of f) (side-at c) c (action-of x) ≡ hits starts sides x c
     unfolding hits

@@ -6,7 +6,7 @@ use mathlib.Core.Bool.{Bool, true, false, not, _&&_, _||_, false≢true, true≢
 use lib.Dec.{eqb}
 use borrow.Author.Tests.{eqb-true, eqb-false, eq-eqb, ne-eqb}
 use mathlib.Core.List.{List, [], _∷_, _++_}
-use Rattle.model.specs.Sides.{Side, host, card, other, is}
+use Rattle.model.specs.Sides.{Side, host, card, other, same-side}
 use Rattle.model.specs.Lists.{any}
 
 pub or-out : (a b : Bool) → (a || b) ≡ true → (a ≡ true) ⊎ (b ≡ true)
@@ -47,21 +47,21 @@ eqb-swap a b = go (eqb b a) refl
     go false e = ne-eqb a b (λ q. eqb-false b a e (sym q)) ∙ sym e
 
 -- two sides
-pub is-same : (s : Side) → is s s ≡ true
+pub is-same : (s : Side) → same-side s s ≡ true
 is-same host = refl
 is-same card = refl
 
-pub is-true : (s t : Side) → is s t ≡ true → s ≡ t
+pub is-true : (s t : Side) → same-side s t ≡ true → s ≡ t
 is-true host host e = refl
 is-true host card e = absurd (false≢true e)
 is-true card host e = absurd (false≢true e)
 is-true card card e = refl
 
-pub is-other : (s : Side) → is (other s) s ≡ false
+pub is-other : (s : Side) → same-side (other s) s ≡ false
 is-other host = refl
 is-other card = refl
 
-pub is-not : (s t : Side) → is s (other t) ≡ not (is s t)
+pub is-not : (s t : Side) → same-side s (other t) ≡ not (same-side s t)
 is-not host host = refl
 is-not host card = refl
 is-not card host = refl

@@ -3,7 +3,7 @@ use mathlib.Core.Path.{_≡_, refl}
 use mathlib.Core.Bool.{Bool, true, _&&_}
 use mathlib.Core.List.{List, [], _∷_, map}
 use Rattle.model.specs.Lists.{sum-before}
-use Rattle.model.specs.Sides.{within}
+use Rattle.model.specs.Records.{covers}
 use Rattle.model.specs.Runs.{here, onward}
 use Rattle.model.specs.Cases.{Case, plan-of, twelve, AllAnswer, StopsFirstAt2, nearly}
 use Rattle.model.specs.Claims.{ClaimCases}
@@ -24,9 +24,9 @@ all-answer (row ∷ rows) s e =
     (rw q at (tried-answers (plan-of row) (p .0)), all-answer rows (p .1) (cc))
 
 stops-first : StopsFirstAt2
-unfolding within sum-before
+unfolding covers sum-before
 stops-first cs = (_, record { run = onward (onward here refl) refl; last = refl })
 
 pub cases : ClaimCases
-unfolding has has-all unmet lower equal within sum-before holder
+unfolding has has-all unmet lower equal covers sum-before holder
 cases = (all-answer twelve refl refl, stops-first, all-answer nearly refl refl)

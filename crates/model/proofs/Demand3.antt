@@ -5,8 +5,9 @@ use mathlib.Core.List.{List}
 use mathlib.Core.Option.{Option, none, some}
 use mathlib.Core.Bool.{Bool, true, false≢true}
 use borrow.Author.Tests.{eqb-true}
-use Rattle.model.specs.Sides.{Side, Stamp, never, at, equals, cell-count, Cells, within}
-use Rattle.model.specs.Effects.{Action, read}
+use Rattle.model.specs.Sides.{Side, Stamp, never, at, equals, cell-count}
+use Rattle.model.specs.Records.{read, Action, covers}
+use Rattle.model.specs.Effects.{met}
 use Rattle.model.specs.Blocks.{Block, act}
 use Rattle.model.specs.Runs.{Config, stopped, carry, lowest-unmet, stop-or, step, Run, Ends}
 use Rattle.model.specs.Judging.{DeclaredPlan, Accepts}
@@ -42,18 +43,22 @@ module _ (plan : DeclaredPlan) (cs : List Bool) (ok : Accepts plan) where
       go none u = u
       go (some c) u = absurd (unstuck k r c (record { run = h; last = rw u at at-record }))
 
-  latest : {k : Config} → Run (expansion plan) cs k → (s : Side) (c : ℕ) → k .state .held s c ≡ at (k .state .latest c) →
-      k .state .held s c ≡ at (latest-write (plan .layout) (k .history) c)
-  latest h s c e = e ∙ ap at (tracked (carried h) .latest c)
+  latest : {k : Config} → Run (expansion plan) cs k → (s : Side) (c : ℕ) → k .state .cell c .held s ≡ at (k .state .cell c .latest) →
+      k .state .cell c .held s ≡ at (latest-write (plan .layout) (k .history) c)
+  latest h s c e = e ∙ ap at (tracked (expansion plan) (carried (expansion plan) h) .latest c)
 
-  reads : (k : Config) → Run (expansion plan) cs k → (r : ℕ) (s : Side) (x : Cells) (b : Block) → k .left ≡ act r (read s x) b →
-      (c : ℕ) → c < cell-count (plan .layout) → within (plan .layout) x c ≡ true → k .state .held s c ≡ at (latest-write (plan .layout) (k .history) c)
-  reads k h r s x b e c i w =
-      let m = all-met (plan .layout) (read s x) (k .state) (met-now h r (read s x) b e) c i in
-      latest h s c (equal-stamp (k .state .held s c) (k .state .latest c) (rw w at m))
+  reads : (k : Config) → Run (expansion plan) cs k → (r : ℕ) (x : Action) (b : Block) → k .left ≡ act r x b → x .verb ≡ read →
+      (c : ℕ) → c < cell-count (plan .layout) → covers (plan .layout) x c ≡ true → k .state .cell c .held (x .side) ≡ at (latest-write (plan .layout) (k .history) c)
+  reads k h r x b e v c i w =
+      let m = all-met (plan .layout) x (k .state) (met-now h r x b e) c i in
+      latest h (x .side) c (equal-stamp (k .state .cell c .held (x .side)) (k .state .cell c .latest) (read-needs x v w m))
+    where
+      read-needs : (x : Action) → x .verb ≡ read → covers (plan .layout) x c ≡ true → met (plan .layout) x (k .state) c ≡ true →
+          equals (k .state .cell c .held (x .side)) (k .state .cell c .latest) ≡ true
+      read-needs x v w m = rw (w, v) at m
 
   current : (k : Config) → Run (expansion plan) cs k → (c : ℕ) → c < cell-count (plan .layout) →
-      (s : Side) × (k .state .held s c ≡ at (latest-write (plan .layout) (k .history) c))
+      (s : Side) × (k .state .cell c .held s ≡ at (latest-write (plan .layout) (k .history) c))
   current k h c i = let s = coherent plan cs ok c i (follows plan cs ok h .stages) .current in (s .0, latest h (s .0) c (s .1))
 
   moved : {k : Config} → Finished plan cs (k .choices) (k .history) → Moves plan cs k

@@ -5,7 +5,8 @@ use mathlib.Core.Logic.{_⊎_, inl, inr}
 use mathlib.Core.List.{List, [], _∷_}
 use mathlib.Core.Bool.{Bool, cond, true≢false}
 use mathlib.Core.Option.{Option, none, some}
-use Rattle.model.specs.Effects.{Action, State, start, effect}
+use Rattle.model.specs.Records.{Action}
+use Rattle.model.specs.Effects.{State, start, effect}
 use Rattle.model.specs.Blocks.{Block, done, act, branch, loop, _then_, Plan}
 use Rattle.model.specs.Runs.{Event, Config, Ending, finished, stopped, out-of-choices, Step, next, ends, stop-or, lowest-unmet, step, Reached, here, onward, Run, Ends}
 use Rattle.model.specs.Claims.{ClaimEnding}

@@ -3,11 +3,12 @@
 use Prim.Native.Nat.{ℕ, zero, suc, _<_}
 use mathlib.Core.Path.{_≡_, refl}
 use mathlib.Core.List.{[], _∷_}
-use mathlib.Core.Bool.{Bool, true, false, true≢false}
+use mathlib.Core.Bool.{true, true≢false}
 use native.Mathlib.Omega.{arith}
 use Rattle.model.specs.Lists.{sum-before}
-use Rattle.model.specs.Sides.{host, card, Cells, within}
-use Rattle.model.specs.Effects.{Action, read, write, need, mark}
+use Rattle.model.specs.Sides.{Side, host, card}
+use Rattle.model.specs.Records.{Verb, read, write, need, mark, Action, whole-of, covers}
+use Rattle.model.specs.Effects.{Deed, nothing, gets, puts, moves}
 use Rattle.model.specs.Blocks.{Block, act}
 use Rattle.model.specs.Runs.{Event, Config, Step, next, ends, finished, step, begin, here, onward, Ends}
 use Rattle.model.specs.Judging.{R, W, Pass, Body0, DeclaredPlan, Rules, Accepts}
@@ -17,26 +18,27 @@ use Rattle.model.proofs.Numbering.{span-within}
 use Rattle.model.proofs.Written.{always-written}
 use Rattle.model.proofs.Demand3.{demand3}
 
-abbrev whole : Cells
-whole = record { array = 0; p = 0; q = 2 }
+-- of both cells
+abbrev of-both : Verb → Side → Action
+of-both v s = record { verb = v; side = s; name = 0; p = 0; q = 2 }
 
 abbrev fill : Pass
-fill = record { declarations = record { mode = W; side = card; array = 0 } ∷ []; body = act 3 (write card whole) Block.done }
+fill = record { declarations = record { mode = W; side = card; array = 0 } ∷ []; body = act 3 (of-both write card) Block.done }
 
 abbrev look : Pass
-look = record { declarations = record { mode = R; side = host; array = 0 } ∷ []; body = act 5 (read host whole) Block.done }
+look = record { declarations = record { mode = R; side = host; array = 0 } ∷ []; body = act 5 (of-both read host) Block.done }
 
 abbrev plan : DeclaredPlan
 plan = record { layout = record { lengths = 2 ∷ [] }; body0 = Body0.call 1 (Body0.call 2 Body0.done); passes = fill ∷ (look ∷ []) }
 
-covers : (c : ℕ) → c < 2 → within (plan .layout) whole c ≡ true
-unfolding within sum-before
-covers zero h = refl
-covers (suc zero) h = refl
-covers (suc (suc c)) h = absurd (omega arith)
+both : (c : ℕ) → c < 2 → covers (plan .layout) (of-both write card) c ≡ true
+unfolding covers sum-before
+both zero h = refl
+both (suc zero) h = refl
+both (suc (suc c)) h = absurd (omega arith)
 
 fill-rules : Rules (plan .layout) fill
-fill-rules = record { once = refl; permitted = refl; written = (λ m c i. always-written (plan .layout) card c (fill .body) .0 (rw (covers c (span-within (plan .layout) 0 c i))), tt) }
+fill-rules = record { once = refl; permitted = refl; written = (λ m c i. always-written (plan .layout) card c (fill .body) .0 (rw (both c (span-within (plan .layout) 0 c i))), tt) }
 
 look-rules : Rules (plan .layout) look
 look-rules = record { once = refl; permitted = refl; written = (λ m. absurd (true≢false (cc)), tt) }
@@ -56,15 +58,15 @@ abbrev last : Config
 last = after (after (after (after (begin (expansion plan) []))))
 
 pub ends-finished : Ends (expansion plan) [] last finished
-unfolding within sum-before
+unfolding covers sum-before
 ends-finished = record { run = onward (onward (onward (onward here refl) refl) refl) refl; last = refl }
 
-abbrev did : Action → Bool → Event
-did x m = record { action = x; copied = m }
+abbrev did : Action → Deed → Event
+did x d = record { action = x; deed = d }
 
 -- its need copied
-pub history : last .history ≡ did (read host whole) false ∷ (did (need host 0) true ∷ (did (write card whole) false ∷ (did (mark card 0) false ∷ [])))
-unfolding within sum-before
+pub history : last .history ≡ did (of-both read host) (gets host) ∷ (did (whole-of need host 0) (moves card host) ∷ (did (of-both write card) (puts card) ∷ (did (whole-of mark card 0) nothing ∷ [])))
+unfolding covers sum-before
 history = refl
 
 pub moved : Moves plan [] last

@@ -3,6 +3,7 @@ pub mod Booleans
 pub mod Rows
 pub mod Runs
 pub mod Unmet
+pub mod Needs
 pub mod Stamps
 pub mod Endings
 pub mod Numbering

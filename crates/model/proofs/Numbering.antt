@@ -1,15 +1,16 @@
 -- Cells numbered through all arrays: a cell is in the span of one array, which is its own,
 -- and the cells P to Q − 1 of an array are those from first + P up to first + Q.
-use Prim.Native.Nat.{ℕ, zero, suc, _+_, _-_, _≤_, _<_}
+use Prim.Native.Nat.{ℕ, zero, suc, _+_, _-_, _≤_, _<_, min}
 use mathlib.Core.Path.{_≡_, refl, sym, ap, _∙_}
 use mathlib.Core.List.{List, [], _∷_}
-use mathlib.Core.Bool.{Bool, true, false, cond, _&&_, and-false}
+use mathlib.Core.Bool.{Bool, true, false, cond, _&&_, and-true, and-false}
 use native.Mathlib.Omega.{arith}
 use lib.ListN.{getD}
 use lib.Dec.{leb, ltb, eqb}
-use borrow.Author.Tests.{ltb-true, ltb-false, lt-ltb, leb-true, le-leb, eqb-true, eq-eqb}
-use Rattle.model.specs.Lists.{sum, sum-before}
-use Rattle.model.specs.Sides.{Layout, cell-count, span-of, in-span, Cells, within}
+use borrow.Author.Tests.{ltb-true, ltb-false, lt-ltb, leb-true, leb-false, le-leb, eqb-true, eq-eqb}
+use Rattle.model.specs.Lists.{sum, sum-before, how-many}
+use Rattle.model.specs.Sides.{Layout, cell-count, span-of, in-span}
+use Rattle.model.specs.Records.{whole, Action, covers, cover-count}
 use Rattle.model.specs.Claims.{ClaimCells}
 use Rattle.model.specs.Inner.Holders.{holder, array-of}
 use Rattle.model.proofs.Booleans.{and-out, and-in}
@@ -48,6 +49,17 @@ unfolding sum-before
 ends-within [] a = omega arith
 ends-within (n ∷ l) zero = omega arith
 ends-within (n ∷ l) (suc a) = let h = ends-within l a in omega arith
+
+-- how many numbers below n are in a range
+between : (f : ℕ → Bool) (low high n : ℕ) → ((c : ℕ) → f c ≡ (leb low c && ltb c high)) → how-many f n ≡ min n high - low
+between f low high zero h = omega arith
+between f low high (suc n) h = rw (h n) (go (between f low high n h) (leb low n) refl (ltb n high) refl)
+  where
+    go : how-many f n ≡ min n high - low → (a : Bool) → leb low n ≡ a → (b : Bool) → ltb n high ≡ b →
+        cond (a && b) (suc (how-many f n)) (how-many f n) ≡ min (suc n) high - low
+    go before true p true q = let i = leb-true low n p in let j = ltb-true n high q in omega arith
+    go before true p false q = let j = ltb-false n high q in omega arith
+    go before false p b q = let i = leb-false low n p in omega arith
 
 module _ (layout : Layout) where
   -- a cell is one of its array's cells
@@ -90,23 +102,41 @@ module _ (layout : Layout) where
       go false true e f = sym e ∙ (rw (eqb-true (array-of layout c) a f) at (own-span c h))
 
   -- the cells of a record are of its array
-  pub within-array : (x : Cells) (c : ℕ) → within layout x c ≡ true → array-of layout c ≡ x .array
-  unfolding within
-  within-array x c e = span-own (x .array) c (and-out (in-span (span-of layout (x .array)) c) _ e .0)
+  pub covers-array : (x : Action) (c : ℕ) → covers layout x c ≡ true → array-of layout c ≡ x .name
+  unfolding covers
+  covers-array x c e = span-own (x .name) c (and-out (in-span (span-of layout (x .name)) c) _ e .0)
 
-  -- where they end within it, they are one range of cell numbers
-  pub within-range : (x : Cells) (c : ℕ) → x .q ≤ span-of layout (x .array) .length →
-      within layout x c ≡ (leb (span-of layout (x .array) .first + x .p) c && ltb c (span-of layout (x .array) .first + x .q))
-  unfolding within
-  within-range x c h = go (leb (span-of layout (x .array) .first + x .p) c && ltb c (span-of layout (x .array) .first + x .q)) refl
+  -- of a record that speaks of the whole array
+  pub covers-whole : (x : Action) (c : ℕ) → whole (x .verb) ≡ true → covers layout x c ≡ in-span (span-of layout (x .name)) c
+  unfolding covers
+  covers-whole x c w = rw w (and-true (in-span (span-of layout (x .name)) c))
+
+  -- else, where they end within it, they are one range of cell numbers
+  pub covers-range : (x : Action) (c : ℕ) → whole (x .verb) ≡ false → x .q ≤ span-of layout (x .name) .length →
+      covers layout x c ≡ (leb (span-of layout (x .name) .first + x .p) c && ltb c (span-of layout (x .name) .first + x .q))
+  unfolding covers
+  covers-range x c w h = rw w (go (leb (span-of layout (x .name) .first + x .p) c && ltb c (span-of layout (x .name) .first + x .q)) refl)
     where
-      go : (b : Bool) → (leb (span-of layout (x .array) .first + x .p) c && ltb c (span-of layout (x .array) .first + x .q)) ≡ b → (in-span (span-of layout (x .array)) c && b) ≡ b
+      go : (b : Bool) → (leb (span-of layout (x .name) .first + x .p) c && ltb c (span-of layout (x .name) .first + x .q)) ≡ b → (in-span (span-of layout (x .name)) c && b) ≡ b
       go true e =
-          let p = and-out (leb (span-of layout (x .array) .first + x .p) c) (ltb c (span-of layout (x .array) .first + x .q)) e in
-          let low = leb-true (span-of layout (x .array) .first + x .p) c (p .0) in
-          let high = ltb-true c (span-of layout (x .array) .first + x .q) (p .1) in
-          rw (bounds-in (x .array) c (omega arith) (omega arith))
-      go false e = and-false (in-span (span-of layout (x .array)) c)
+          let p = and-out (leb (span-of layout (x .name) .first + x .p) c) (ltb c (span-of layout (x .name) .first + x .q)) e in
+          let low = leb-true (span-of layout (x .name) .first + x .p) c (p .0) in
+          let high = ltb-true c (span-of layout (x .name) .first + x .q) (p .1) in
+          rw (bounds-in (x .name) c (omega arith) (omega arith))
+      go false e = and-false (in-span (span-of layout (x .name)) c)
+
+  -- how many they are
+  pub ranged-count : (x : Action) → whole (x .verb) ≡ false → x .q ≤ span-of layout (x .name) .length → cover-count layout x ≡ x .q - x .p
+  unfolding cover-count
+  ranged-count x w h =
+      between (covers layout x) (span-of layout (x .name) .first + x .p) (span-of layout (x .name) .first + x .q) (cell-count layout) (λ c. covers-range x c w h)
+      ∙ omega (arith, array-ends (x .name))
+
+  pub whole-count : (x : Action) → whole (x .verb) ≡ true → cover-count layout x ≡ span-of layout (x .name) .length
+  unfolding cover-count
+  whole-count x w =
+      between (covers layout x) (span-of layout (x .name) .first) (span-of layout (x .name) .first + span-of layout (x .name) .length) (cell-count layout) (λ c. covers-whole x c w)
+      ∙ omega (arith, array-ends (x .name))
 
 pub one-array : ClaimCells
 one-array layout c h = (array-of layout c, own-span layout c h, λ b e. sym (span-own layout b c e))

@@ -5,9 +5,10 @@ use mathlib.Core.List.{List, [], _∷_}
 use mathlib.Core.Bool.{Bool, true≢false}
 use mathlib.Core.Option.{Option, none, some}
 use Rattle.model.specs.Sides.{Layout}
-use Rattle.model.specs.Effects.{Action, State, start, effect}
+use Rattle.model.specs.Records.{Action}
+use Rattle.model.specs.Effects.{State, start, deed, effect}
 use Rattle.model.specs.Blocks.{Block, done, act, branch, loop, Plan}
-use Rattle.model.specs.Runs.{Event, copies, Config, next, carry, stop-or, lowest-unmet, step, here, onward, Run}
+use Rattle.model.specs.Runs.{Event, Config, next, carry, stop-or, lowest-unmet, step, here, onward, Run}
 use Rattle.model.specs.Check.{Carried}
 use Rattle.model.specs.Claims.{ClaimCarried}
 
@@ -16,7 +17,7 @@ config b cs σ l = record { left = b; choices = cs; state = σ; history = l }
 
 -- a record as it is executed
 abbrev pub event : Action → State → Event
-event x σ = record { action = x; copied = copies x σ }
+event x σ = record { action = x; deed = deed x σ }
 
 pub next-same : (k k′ : Config) → next k ≡ next k′ → k ≡ k′
 next-same k k′ e = cc
@@ -32,12 +33,12 @@ module _ (layout : Layout) where
   next-carry (branch r x y b) cs σ l k e = e
   next-carry (loop r x b) cs σ l k e = e
 
-pub carried : {plan : Plan} {cs : List Bool} {k : Config} → Run plan cs k → Carried plan cs k
-carried here = here
-carried {plan} (onward {k = k} {k′} h e) = onward (carried h) (next-carry (plan .layout) (k .left) (k .choices) (k .state) (k .history) k′ e)
+pub carried : (plan : Plan) {cs : List Bool} {k : Config} → Run plan cs k → Carried plan cs k
+carried plan here = here
+carried plan (onward {k = k} {k′} h e) = onward (carried plan h) (next-carry (plan .layout) (k .left) (k .choices) (k .state) (k .history) k′ e)
 
 pub proper-carried : ClaimCarried
-proper-carried plan cs k = carried
+proper-carried plan cs k = carried plan
 
 -- what holds at the start and is kept by every executed record
 module _ (plan : Plan) (P : State → List Event → Type 0) (first : P (start (plan .layout)) [])

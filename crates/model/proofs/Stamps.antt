@@ -1,21 +1,24 @@
 -- Stamps: the `latest` of a state is the latest write of the history, and no stamp is ahead of the count of writes,
 -- so that the stamp of the next write equals no copy.
 use Prim.Native.Nat.{ℕ, suc, _≤_}
-use mathlib.Core.Path.{_≡_, refl, ap}
-use mathlib.Core.Logic.{_≢_}
+use mathlib.Core.Path.{_≡_, refl, ap, sym, _∙_}
+use mathlib.Core.Logic.{_≢_, _⊎_, inl, inr}
 use mathlib.Core.List.{List, _∷_}
-use mathlib.Core.Bool.{Bool, true, false, cond, _&&_}
+use mathlib.Core.Bool.{Bool, true, false, cond}
 use native.Mathlib.Omega.{arith}
 use lib.Dec.{eqb}
 use borrow.Author.Tests.{eqb-true}
-use Rattle.model.specs.Sides.{Side, host, card, other, is, Stamp, never, at, equals, Layout, span-of, in-span, within}
-use Rattle.model.specs.Effects.{Action, read, write, copy, need, mark, State, start, stamped, copied, flagged, effect}
+use Rattle.model.specs.declared.Tally.{Tally}
+use Rattle.model.specs.Sides.{Side, host, card, same-side, Stamp, never, at, equals, Layout}
+use Rattle.model.specs.Records.{Verb, read, write, copy, need, mark, same-verb, Action, covers}
+use Rattle.model.specs.Effects.{Stamps, Flags, State, start, Deed, nothing, gets, puts, moves, comes-to, does, counted, deed, effect}
 use Rattle.model.specs.Blocks.{Plan}
 use Rattle.model.specs.Runs.{Event, Config, tally}
 use Rattle.model.specs.Check.{Carried}
 use Rattle.model.specs.Demand.{latest-write}
 use Rattle.model.specs.Claims.{ClaimLatest, ClaimFresh}
 use Rattle.model.proofs.Booleans.{false-of}
+use Rattle.model.proofs.Needs.{flag-set, flag-clear}
 use Rattle.model.proofs.Runs.{event, along}
 
 -- a stamp that is not ahead of w writes
@@ -24,8 +27,8 @@ Old w never = Unit {0}
 Old w (at j) = j ≤ w
 
 pub record Past (σ : State) : Type 0 where
-  pub held : (s : Side) (c : ℕ) → Old (σ .writes) (σ .held s c)
-  pub latest : (c : ℕ) → σ .latest c ≤ σ .writes
+  pub held : (s : Side) (c : ℕ) → Old (σ .writes) (σ .cell c .held s)
+  pub latest : (c : ℕ) → σ .cell c .latest ≤ σ .writes
 
 old-suc : (w : ℕ) (x : Stamp) → Old w x → Old (suc w) x
 old-suc w never h = tt
@@ -43,46 +46,78 @@ old-stale w (at j) h = false-of (eqb j (suc w)) λ e. let q : j ≡ suc w = eqb-
 past-start : (layout : Layout) → Past (start layout)
 past-start layout = record { held = held; latest = λ c. omega arith }
   where
-    held : (s : Side) (c : ℕ) → Old 0 (start layout .held s c)
+    held : (s : Side) (c : ℕ) → Old 0 (start layout .cell c .held s)
     held host c = omega arith
     held card c = omega arith
 
-past-stamped : (s : Side) (these : ℕ → Bool) (σ : State) → Past σ → Past (stamped s these σ)
-past-stamped s these σ p = record {
-  held = λ t c. old-cond (suc (σ .writes)) (is t s && these c) _ _ (omega arith) (old-suc (σ .writes) (σ .held t c) (p .held t c));
-  latest = λ c. at-most (these c) (σ .latest c) (p .latest c);
-}
+-- a deed that puts no stamp
+abbrev pub Quiet : Deed → Type 0
+Quiet nothing = Unit {0}
+Quiet (gets s) = Unit {0}
+Quiet (puts s) = ⊥
+Quiet (moves from to) = Unit {0}
+
+-- a record is a write, or it puts no stamp
+pub write-or-quiet : (x : Action) (σ : State) → (x .verb ≡ write) ⊎ ((same-verb (x .verb) write ≡ false) × Quiet (deed x σ))
+write-or-quiet x σ = go (x .verb)
   where
-    at-most : (b : Bool) (j : ℕ) → j ≤ σ .writes → cond b (suc (σ .writes)) j ≤ suc (σ .writes)
-    at-most true j h = omega arith
-    at-most false j h = omega arith
+    f : Flags
+    f = σ .flags (x .name)
 
-past-copied : (s : Side) (these : ℕ → Bool) (σ : State) → Past σ → Past (copied s these σ)
-past-copied s these σ p = record {
-  held = λ t c. old-cond (σ .writes) (is t s && these c) _ _ (p .held (other s) c) (p .held t c);
-  latest = p .latest;
-}
+    quiet-need : (b : Bool) → f .flag (x .side) ≡ b → Quiet (comes-to need (x .side) f .0)
+    quiet-need true e = rw (flag-set (x .side) f e) tt
+    quiet-need false e = rw (flag-clear (x .side) f e) tt
 
-past-flagged : (f : Side → ℕ → Bool) (σ : State) → Past σ → Past (flagged f σ)
-past-flagged f σ p = record { held = p .held; latest = p .latest }
+    go : (v : Verb) → (v ≡ write) ⊎ ((same-verb v write ≡ false) × Quiet (comes-to v (x .side) f .0))
+    go read = inr (refl, tt)
+    go write = inl refl
+    go copy = inr (refl, tt)
+    go need = inr (refl, quiet-need (f .flag (x .side)) refl)
+    go mark = inr (refl, tt)
 
-past-cond : (b : Bool) (σ τ : State) → Past σ → Past τ → Past (cond b σ τ)
-past-cond true σ τ h k = h
-past-cond false σ τ h k = k
+-- a record with another verb
+abbrev pub as-verb : Verb → Action → Action
+as-verb v x = record { verb = v; side = x .side; name = x .name; p = x .p; q = x .q }
+
+-- the stamps of one cell
+abbrev OldCell : ℕ → Stamps → Type 0
+OldCell w u = ((s : Side) → Old w (u .held s)) × (u .latest ≤ w)
+
+old-cell : (w : ℕ) (b : Bool) (u v : Stamps) → OldCell w u → OldCell w v → OldCell w (cond b u v)
+old-cell w true u v h k = h
+old-cell w false u v h k = k
+
+old-put : (w : ℕ) (s : Side) (u : Stamps) → OldCell w u → OldCell (suc w) (does (suc w) (puts s) u)
+old-put w s u h = (λ t. old-cond (suc w) (same-side t s) _ _ (omega arith) (old-suc w (u .held t) (h .0 t)), omega arith)
+
+old-quiet : (w k : ℕ) (d : Deed) (u : Stamps) → Quiet d → OldCell w u → OldCell w (does k d u)
+old-quiet w k nothing u q h = h
+old-quiet w k (gets s) u q h = h
+old-quiet w k (puts s) u q h = absurd q
+old-quiet w k (moves from to) u q h = (λ t. old-cond w (same-side t to) _ _ (h .0 from) (h .0 t), h .1)
 
 pub past-effect : (layout : Layout) (x : Action) (σ : State) → Past σ → Past (effect layout x σ)
-past-effect layout (read s x) σ p = p
-past-effect layout (write s x) σ p = past-flagged _ _ (past-stamped s (within layout x) σ p)
-past-effect layout (copy s x) σ p = past-flagged _ _ (past-copied s (within layout x) σ p)
-past-effect layout (need s a) σ p = past-cond (σ .flag s a) _ _ p (past-flagged _ _ (past-copied s (in-span (span-of layout a)) σ p))
-past-effect layout (mark s a) σ p = past-flagged _ σ p
+past-effect layout x σ p = go (write-or-quiet x σ)
+  where
+    cell : (c : ℕ) → OldCell (σ .writes) (σ .cell c)
+    cell c = (λ s. p .held s c, p .latest c)
+
+    from-cells : (τ : State) → ((c : ℕ) → OldCell (τ .writes) (τ .cell c)) → Past τ
+    from-cells τ h = record { held = λ s c. h c .0 s; latest = λ c. h c .1 }
+
+    later : (c : ℕ) → OldCell (suc (σ .writes)) (σ .cell c)
+    later c = (λ s. old-suc (σ .writes) (σ .cell c .held s) (p .held s c), omega (arith, p .latest c))
+
+    go : (x .verb ≡ write) ⊎ ((same-verb (x .verb) write ≡ false) × Quiet (deed x σ)) → Past (effect layout x σ)
+    go (inl q) = from-cells (effect layout x σ) (λ c. rw q (old-cell (suc (σ .writes)) (covers layout (as-verb write x) c) _ _ (old-put (σ .writes) (x .side) (σ .cell c) (cell c)) (later c)))
+    go (inr (e, q)) = from-cells (effect layout x σ) (λ c. rw e (old-cell (σ .writes) (covers layout x c) _ _ (old-quiet (σ .writes) _ (deed x σ) (σ .cell c) q (cell c)) (cell c)))
 
 -- at every moment of a run, and of a carried-on run
-pub past : {plan : Plan} {cs : List Bool} {k : Config} → Carried plan cs k → Past (k .state)
-past {plan} h = along plan (λ σ l. Past σ) (past-start (plan .layout)) (λ x σ l. past-effect (plan .layout) x σ) h
+pub past : (plan : Plan) {cs : List Bool} {k : Config} → Carried plan cs k → Past (k .state)
+past plan h = along plan (λ σ l. Past σ) (past-start (plan .layout)) (λ x σ l. past-effect (plan .layout) x σ) h
 
 pub fresh : ClaimFresh
-fresh plan cs k h s c e = go (k .state .held s c) (past h .held s c) e
+fresh plan cs k h s c e = go (k .state .cell c .held s) (past plan h .held s c) e
   where
     go : (x : Stamp) → Old (k .state .writes) x → x ≢ at (suc (k .state .writes))
     go never o q = let z : _≡_ {A = ℕ} 0 1 = cc in omega arith
@@ -91,21 +126,44 @@ fresh plan cs k h s c e = go (k .state .held s c) (past h .held s c) e
 -- the count of writes and `latest` are those of the history
 pub record Tracked (layout : Layout) (σ : State) (l : List Event) : Type 0 where
   pub writes : σ .writes ≡ tally layout l .writes
-  pub latest : (c : ℕ) → σ .latest c ≡ latest-write layout l c
+  pub latest : (c : ℕ) → σ .cell c .latest ≡ latest-write layout l c
+
+-- what puts no stamp leaves the latest one, and counts as no write
+quiet-latest : (k : ℕ) (d : Deed) (u : Stamps) → Quiet d → does k d u .latest ≡ u .latest
+quiet-latest k nothing u q = refl
+quiet-latest k (gets s) u q = refl
+quiet-latest k (puts s) u q = absurd q
+quiet-latest k (moves from to) u q = refl
+
+quiet-writes : (d : Deed) (n : ℕ) (t : Tally) → Quiet d → counted d n t .writes ≡ t .writes
+quiet-writes nothing n t q = refl
+quiet-writes (gets s) n t q = refl
+quiet-writes (puts s) n t q = absurd q
+quiet-writes (moves from to) n t q = refl
+
+cond-latest : (b : Bool) (u v : Stamps) → cond b u v .latest ≡ cond b (u .latest) (v .latest)
+cond-latest true u v = refl
+cond-latest false u v = refl
+
+cond-same : (b : Bool) (j : ℕ) → cond b j j ≡ j
+cond-same true j = refl
+cond-same false j = refl
 
 tracked-effect : (layout : Layout) (x : Action) (σ : State) (l : List Event) → Tracked layout σ l → Tracked layout (effect layout x σ) (event x σ ∷ l)
-tracked-effect layout (read s x) σ l t = record { writes = t .writes; latest = t .latest }
-tracked-effect layout (write s x) σ l t = record { writes = ap suc (t .writes); latest = λ c. rw (t .writes, t .latest c) }
-tracked-effect layout (copy s x) σ l t = record { writes = t .writes; latest = t .latest }
-tracked-effect layout (need s a) σ l t = go (σ .flag s a) refl
+tracked-effect layout x σ l t = go (write-or-quiet x σ)
   where
-    go : (b : Bool) → σ .flag s a ≡ b → Tracked layout (effect layout (need s a) σ) (event (need s a) σ ∷ l)
-    go true e = rw e (record { writes = t .writes; latest = t .latest })
-    go false e = rw e (record { writes = t .writes; latest = t .latest })
-tracked-effect layout (mark s a) σ l t = record { writes = t .writes; latest = t .latest }
+    go : (x .verb ≡ write) ⊎ ((same-verb (x .verb) write ≡ false) × Quiet (deed x σ)) → Tracked layout (effect layout x σ) (event x σ ∷ l)
+    go (inl q) = record {
+      writes = rw q (ap suc (t .writes));
+      latest = λ c. rw q (cond-latest (covers layout (as-verb write x) c) _ _ ∙ rw (t .writes, t .latest c));
+    }
+    go (inr (e, q)) = record {
+      writes = rw e (t .writes ∙ sym (quiet-writes (deed x σ) _ _ q));
+      latest = λ c. rw e (cond-latest (covers layout x c) _ _ ∙ (rw (quiet-latest (suc (σ .writes)) (deed x σ) (σ .cell c) q) (cond-same (covers layout x c) _ ∙ t .latest c)));
+    }
 
-pub tracked : {plan : Plan} {cs : List Bool} {k : Config} → Carried plan cs k → Tracked (plan .layout) (k .state) (k .history)
-tracked {plan} h = along plan (Tracked (plan .layout)) (record { writes = refl; latest = λ c. refl }) (tracked-effect (plan .layout)) h
+pub tracked : (plan : Plan) {cs : List Bool} {k : Config} → Carried plan cs k → Tracked (plan .layout) (k .state) (k .history)
+tracked plan h = along plan (Tracked (plan .layout)) (record { writes = refl; latest = λ c. refl }) (tracked-effect (plan .layout)) h
 
 pub latest-tracked : ClaimLatest
-latest-tracked plan cs k h = tracked h .latest
+latest-tracked plan cs k h = tracked plan h .latest

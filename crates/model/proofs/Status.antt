@@ -1,16 +1,17 @@
 -- The status of one cell: which of its copies are current and which flags of its array are set.
 -- What a record needs of the cell, and the status after it, follow from the status before it.
-use Prim.Native.Nat.{ℕ, suc, _<_}
+use Prim.Native.Nat.{ℕ, suc}
 use mathlib.Core.Path.{_≡_, refl, ap, sym, _∙_}
-use mathlib.Core.Bool.{Bool, true, false, cond, not, _&&_, _||_, and-false, or-true}
+use mathlib.Core.Bool.{Bool, true, false, cond, not, _||_}
 use lib.Dec.{eqb}
-use borrow.Author.Tests.{eqb-true, eq-eqb}
-use Rattle.model.specs.Sides.{Side, host, card, other, is, Stamp, at, equals, Layout, cell-count, span-of, in-span, within}
-use Rattle.model.specs.Effects.{Action, read, write, copy, need, mark, State, current, copied, met, effect}
+use borrow.Author.Tests.{eq-eqb}
+use Rattle.model.specs.Sides.{Side, host, card, same-side, Stamp, at, equals, Layout}
+use Rattle.model.specs.Records.{Action, covers}
+use Rattle.model.specs.Effects.{Stamps, Flags, State, current, Deed, nothing, gets, puts, moves, comes-to, needs, does, deed, met, effect}
 use Rattle.model.specs.Inner.Holders.{array-of}
 use Rattle.model.proofs.Bits.{Bits, equal, equal-true}
-use Rattle.model.proofs.Numbering.{in-own}
-use Rattle.model.proofs.Stamps.{Old, Past, old-stale}
+use Rattle.model.proofs.Numbering.{covers-array}
+use Rattle.model.proofs.Stamps.{Past, old-stale}
 
 pub record Status : Type 0 where
   pub host-current : Bool
@@ -47,17 +48,46 @@ flag-on u card = u .card-flag
 abbrev pub status : (Side → Bool) → (Side → Bool) → Status
 status f g = record { host-current = f host; card-current = f card; host-flag = g host; card-flag = g card }
 
--- a write makes its own copy current and the other one stale
-current-stamped : (w : ℕ) (own these : Bool) (x : Stamp) (l : ℕ) → Old w x →
-    equals (cond (own && these) (at (suc w)) x) (cond these (suc w) l) ≡ cond these own (equals x l)
-current-stamped w true true x l o = eq-eqb (suc w) (suc w) refl
-current-stamped w false true x l o = old-stale w x o
-current-stamped w true false x l o = refl
-current-stamped w false false x l o = refl
+-- what a deed needs, and makes, of the copies that are current
+abbrev pub needs-of : Deed → (Side → Bool) → Bool
+needs-of nothing v = true
+needs-of (gets s) v = v s
+needs-of (puts s) v = true
+needs-of (moves from to) v = v from
 
-current-copied : (b : Bool) (x y : Stamp) (l : ℕ) → equals (cond b x y) l ≡ cond b (equals x l) (equals y l)
-current-copied true x y l = refl
-current-copied false x y l = refl
+abbrev pub makes-of : Deed → (Side → Bool) → Side → Bool
+makes-of nothing v t = v t
+makes-of (gets s) v t = v t
+makes-of (puts s) v t = same-side t s
+makes-of (moves from to) v t = cond (same-side t to) (v from) (v t)
+
+needs-current : (d : Deed) (u : Stamps) → needs d u ≡ needs-of d (current u)
+needs-current nothing u = refl
+needs-current (gets s) u = refl
+needs-current (puts s) u = refl
+needs-current (moves from to) u = refl
+
+put-current : (b : Bool) (k : ℕ) (x : Stamp) → equals x k ≡ false → equals (cond b (at k) x) k ≡ b
+put-current true k x old = eq-eqb k k refl
+put-current false k x old = old
+
+moved-current : (b : Bool) (x y : Stamp) (k : ℕ) → equals (cond b x y) k ≡ cond b (equals x k) (equals y k)
+moved-current true x y k = refl
+moved-current false x y k = refl
+
+-- where stamp k is new
+makes-current : (k : ℕ) (d : Deed) (u : Stamps) → ((t : Side) → equals (u .held t) k ≡ false) → (t : Side) → current (does k d u) t ≡ makes-of d (current u) t
+makes-current k nothing u new t = refl
+makes-current k (gets s) u new t = refl
+makes-current k (puts s) u new t = put-current (same-side t s) k (u .held t) (new t)
+makes-current k (moves from to) u new t = moved-current (same-side t to) (u .held from) (u .held t) (u .latest)
+
+-- what a record comes to, and makes of the flags, by the status of a cell of its array
+abbrev pub flags-in : Status → Flags
+flags-in u = record { flag = flag-on u }
+
+abbrev pub comes-in : Action → Status → Deed × Flags
+comes-in x u = comes-to (x .verb) (x .side) (flags-in u)
 
 module _ (layout : Layout) (c : ℕ) where
   -- whether array a is the cell's own
@@ -66,74 +96,57 @@ module _ (layout : Layout) (c : ℕ) where
 
   -- the status of cell c
   abbrev pub status-of : State → Status
-  status-of σ = status (λ s. current σ s c) (λ s. σ .flag s (array-of layout c))
+  status-of σ = status (current (σ .cell c)) (σ .flags (array-of layout c) .flag)
 
   -- what a record needs of the cell, by its status
   abbrev pub met-in : Action → Status → Bool
-  met-in (read s x) u = not (within layout x c) || current-on u s
-  met-in (write s x) u = true
-  met-in (copy s x) u = not (within layout x c) || current-on u (other s)
-  met-in (need s a) u = not (own a) || (flag-on u s || current-on u (other s))
-  met-in (mark s a) u = true
+  met-in x u = not (covers layout x c) || needs-of (comes-in x u .0) (current-on u)
 
   -- its status after the record
   abbrev pub status-after : Action → Status → Status
-  status-after (read s x) u = u
-  status-after (write s x) u = status (λ t. cond (within layout x c) (is t s) (current-on u t)) (flag-on u)
-  status-after (copy s x) u = status (λ t. cond (is t s && within layout x c) (current-on u (other s)) (current-on u t)) (flag-on u)
-  status-after (need s a) u = cond (flag-on u s) u (status (λ t. cond (is t s && own a) (current-on u (other s)) (current-on u t)) (λ t. own a || flag-on u t))
-  status-after (mark s a) u = status (current-on u) (λ t. cond (own a) (is t s) (flag-on u t))
+  status-after x u =
+      status
+      (λ t. cond (covers layout x c) (makes-of (comes-in x u .0) (current-on u) t) (current-on u t))
+      (λ t. cond (own (x .name)) (comes-in x u .1 .flag t) (flag-on u t))
 
-  current-of : (σ : State) (s : Side) → current-on (status-of σ) s ≡ current σ s c
+  current-of : (σ : State) (s : Side) → current (σ .cell c) s ≡ current-on (status-of σ) s
   current-of σ host = refl
   current-of σ card = refl
 
-  flag-of : (σ : State) (s : Side) → flag-on (status-of σ) s ≡ σ .flag s (array-of layout c)
+  flag-of : (σ : State) (s : Side) → σ .flags (array-of layout c) .flag s ≡ flag-on (status-of σ) s
   flag-of σ host = refl
   flag-of σ card = refl
 
-  pub met-status : c < cell-count layout → (x : Action) (σ : State) → met layout x σ c ≡ met-in x (status-of σ)
-  met-status i (read s x) σ = rw (current-of σ s)
-  met-status i (write s x) σ = refl
-  met-status i (copy s x) σ = rw (current-of σ (other s))
-  met-status i (need s a) σ = rw (current-of σ (other s), flag-of σ s, in-own layout c i a) (go (own a) refl)
+  currents-of : (σ : State) → current (σ .cell c) ≡ current-on (status-of σ)
+  currents-of σ = λ i s. current-of σ s i
+
+  flags-of : (σ : State) → σ .flags (array-of layout c) ≡ flags-in (status-of σ)
+  flags-of σ = λ i. record { flag = λ s. flag-of σ s i }
+
+  -- a record that covers the cell looks at the flags of its own array
+  own-deed : (x : Action) (σ : State) → covers layout x c ≡ true → deed x σ ≡ comes-in x (status-of σ) .0
+  own-deed x σ e =
+      ap (λ n. comes-to (x .verb) (x .side) (σ .flags n) .0) (sym (covers-array layout x c e)) ∙ ap (λ f. comes-to (x .verb) (x .side) f .0) (flags-of σ)
+
+  pub met-status : (x : Action) (σ : State) → met layout x σ c ≡ met-in x (status-of σ)
+  met-status x σ = go (covers layout x c) refl
     where
-      go : (b : Bool) → own a ≡ b → (σ .flag s a || (not b || current σ (other s) c)) ≡ (not b || (σ .flag s (array-of layout c) || current σ (other s) c))
-      go true e = rw (eqb-true (array-of layout c) a e)
-      go false e = or-true (σ .flag s a)
-  met-status i (mark s a) σ = refl
+      go : (b : Bool) → covers layout x c ≡ b → (not b || needs (deed x σ) (σ .cell c)) ≡ (not b || needs-of (comes-in x (status-of σ) .0) (current-on (status-of σ)))
+      go true e = needs-current (deed x σ) (σ .cell c) ∙ (λ i. needs-of (own-deed x σ e i) (currents-of σ i))
+      go false e = refl
 
-  -- after a copy of some cells to side s, with any flags
-  status-copied : (s : Side) (these : ℕ → Bool) (flags : Side → Bool) (σ : State) →
-      status (λ t. current (copied s these σ) t c) flags ≡ status (λ t. cond (is t s && these c) (current-on (status-of σ) (other s)) (current-on (status-of σ) t)) flags
-  status-copied s these flags σ = rw (current-of σ (other s)) (λ i. status (λ t. current-copied (is t s && these c) (σ .held (other s) c) (σ .held t c) (σ .latest c) i) flags)
-
-  pub status-effect : c < cell-count layout → (x : Action) (σ : State) → Past σ → status-of (effect layout x σ) ≡ status-after x (status-of σ)
-  status-effect i (read s x) σ p = refl
-  status-effect i (write s x) σ p =
-      λ i. status (λ t. current-stamped (σ .writes) (is t s) (within layout x c) (σ .held t c) (σ .latest c) (p .held t c) i) (λ t. σ .flag t (array-of layout c))
-  status-effect i (copy s x) σ p = status-copied s (within layout x) (λ t. σ .flag t (array-of layout c)) σ
-  status-effect i (need s a) σ p = status-cond (σ .flag s a) _ ∙ (ap (cond (σ .flag s a) (status-of σ)) (status-copied s own-cells flags σ ∙ rw (in-own layout c i a)) ∙ go (own a) refl)
+  pub status-effect : (x : Action) (σ : State) → Past σ → status-of (effect layout x σ) ≡ status-after x (status-of σ)
+  status-effect x σ p = λ i. status (λ t. copies t (covers layout x c) refl i) (λ t. flags t (own (x .name)) i)
     where
-      own-cells : ℕ → Bool
-      own-cells = in-span (span-of layout a)
+      new : (t : Side) → equals (σ .cell c .held t) (suc (σ .writes)) ≡ false
+      new t = old-stale (σ .writes) (σ .cell c .held t) (p .held t c)
 
-      flags : Side → Bool
-      flags t = own a || σ .flag t (array-of layout c)
+      copies : (t : Side) (b : Bool) → covers layout x c ≡ b →
+          current (cond b (does (suc (σ .writes)) (deed x σ) (σ .cell c)) (σ .cell c)) t
+          ≡ cond b (makes-of (comes-in x (status-of σ) .0) (current-on (status-of σ)) t) (current-on (status-of σ) t)
+      copies t true e = makes-current (suc (σ .writes)) (deed x σ) (σ .cell c) new t ∙ (λ i. makes-of (own-deed x σ e i) (currents-of σ i) t)
+      copies t false e = λ i. current-of σ t i
 
-      status-cond : (f : Bool) (τ : State) → status-of (cond f σ τ) ≡ cond f (status-of σ) (status-of τ)
-      status-cond true τ = refl
-      status-cond false τ = refl
-
-      after : Status
-      after = status (λ t. cond (is t s && own a) (current-on (status-of σ) (other s)) (current-on (status-of σ) t)) flags
-
-      -- the need tests the flag of the cell's own array, or else it leaves the cell as it is
-      go : (b : Bool) → own a ≡ b → cond (σ .flag s a) (status-of σ) after ≡ cond (flag-on (status-of σ) s) (status-of σ) after
-      go true e = rw (flag-of σ s, eqb-true (array-of layout c) a e)
-      go false e = same (σ .flag s a) ∙ sym (same (flag-on (status-of σ) s))
-        where
-          same : (f : Bool) → cond f (status-of σ) after ≡ status-of σ
-          same true = refl
-          same false = rw (e, and-false (is host s), and-false (is card s))
-  status-effect i (mark s a) σ p = refl
+      flags : (t : Side) (b : Bool) → cond b (comes-to (x .verb) (x .side) (σ .flags (array-of layout c)) .1) (σ .flags (array-of layout c)) .flag t ≡ cond b (comes-in x (status-of σ) .1 .flag t) (flag-on (status-of σ) t)
+      flags t true = λ i. comes-to (x .verb) (x .side) (flags-of σ i) .1 .flag t
+      flags t false = λ i. flag-of σ t i

@@ -54,7 +54,7 @@ module _ (plan : Plan) where
   stuck-on (loop q x b) (d ∷ cs) σ l r c h e = absurd (true≢false (cc))
 
   stuck-stops : (s : Stuck plan) → MayStop plan (s .number) (s .cell)
-  stuck-stops s = let k = s .config in stuck-on (k .left) (k .choices) (k .state) (k .history) (s .number) (s .cell) (carried (s .ends .run)) (s .ends .last)
+  stuck-stops s = let k = s .config in stuck-on (k .left) (k .choices) (k .state) (k .history) (s .number) (s .cell) (carried plan (s .ends .run)) (s .ends .last)
 
 pub accepted-iff : ClaimAccepted
 accepted-iff plan = (λ h s. h (s .number) (s .cell) (stuck-stops plan s), λ h r c m. h (stops-stuck plan r c m))

@@ -5,7 +5,8 @@ use mathlib.Core.Logic.{_⊎_, inl, inr}
 use mathlib.Core.List.{List, [], _∷_}
 use mathlib.Core.Bool.{Bool, true, false, cond, true≢false}
 use Rattle.model.specs.Sides.{Layout, cell-count}
-use Rattle.model.specs.Effects.{Action, State, start, met, effect}
+use Rattle.model.specs.Records.{Action}
+use Rattle.model.specs.Effects.{State, start, met, effect}
 use Rattle.model.specs.Blocks.{Block, done, act, branch, loop, _then_, Plan}
 use Rattle.model.specs.Runs.{Event, Config, next, carry, Reached, here, onward}
 use Rattle.model.specs.Check.{Carried, MayStop}
@@ -62,17 +63,17 @@ module _ (layout : Layout) (c : ℕ) where
     abbrev StopsFrom : Config → Type 0
     StopsFrom k = Stops (k .left) (status-of layout c (k .state)) r
 
-    stops-before : c < cell-count layout → (b : Block) (cs : List Bool) (σ : State) (l : List Event) (k : Config) → Past σ →
+    stops-before : (b : Block) (cs : List Bool) (σ : State) (l : List Event) (k : Config) → Past σ →
         carry layout (config b cs σ l) ≡ next k → StopsFrom k → StopsFrom (config b cs σ l)
-    stops-before i done cs σ l k p e = absurd (true≢false (cc))
-    stops-before i (act q x b) cs σ l k p e = rw (← next-same _ k e) (λ s. inr (rw (status-effect layout c i x σ p) at s))
-    stops-before i (branch q x y b) [] σ l k p e = absurd (true≢false (cc))
-    stops-before i (branch q x y b) (d ∷ cs) σ l k p e = rw (← next-same _ k e) (stops-branch q x y b d (status-of layout c σ))
-    stops-before i (loop q x b) [] σ l k p e = absurd (true≢false (cc))
-    stops-before i (loop q x b) (d ∷ cs) σ l k p e = rw (← next-same _ k e) (stops-loop q x b d (status-of layout c σ))
+    stops-before done cs σ l k p e = absurd (true≢false (cc))
+    stops-before (act q x b) cs σ l k p e = rw (← next-same _ k e) (λ s. inr (rw (status-effect layout c x σ p) at s))
+    stops-before (branch q x y b) [] σ l k p e = absurd (true≢false (cc))
+    stops-before (branch q x y b) (d ∷ cs) σ l k p e = rw (← next-same _ k e) (stops-branch q x y b d (status-of layout c σ))
+    stops-before (loop q x b) [] σ l k p e = absurd (true≢false (cc))
+    stops-before (loop q x b) (d ∷ cs) σ l k p e = rw (← next-same _ k e) (stops-loop q x b d (status-of layout c σ))
 
   -- each of these is a stop of some carried-on run: the choices are built from the last one to the first
-  module _ (r : ℕ) (i : c < cell-count layout) where
+  module _ (r : ℕ) where
     -- with b left, some choices lead to a stop at record r
     record CanStop (b : Block) (σ : State) (l : List Event) : Type 0 where
       choices : List Bool
@@ -105,7 +106,7 @@ module _ (layout : Layout) (c : ℕ) where
 
     from-act : (k : ℕ) (x : Action) (b : Block) (u : Status) → From b (status-after layout c x u) → From (act k x b) u
     from-act k x b u f σ l p e = can-stop-before (λ cs. cs) (λ cs. refl)
-        (f (effect layout x σ) (event x σ ∷ l) (past-effect layout x σ p) (status-effect layout c i x σ p ∙ ap (status-after layout c x) e))
+        (f (effect layout x σ) (event x σ ∷ l) (past-effect layout x σ p) (status-effect layout c x σ p ∙ ap (status-after layout c x) e))
 
     from-branch : (k : ℕ) (x y b : Block) (d : Bool) (u : Status) → From (cond d x y then b) u → From (branch k x y b) u
     from-branch k x y b d u f σ l p e = can-stop-before (λ cs. d ∷ cs) (λ cs. refl) (f σ l p e)
@@ -138,7 +139,7 @@ module _ (layout : Layout) (c : ℕ) where
       action = y;
       rest = x then b;
       left = ap (λ q. act q y (x then b)) (s .0);
-      unmet = met-status layout c i y σ ∙ (ap (met-in layout c y) e ∙ s .1);
+      unmet = met-status layout c y σ ∙ (ap (met-in layout c y) e ∙ s .1);
     }
     from-stops (act k y x) b u (inr s) = from-act k y (x then b) u (from-stops x b (status-after layout c y u) s)
     from-stops (branch k y z x) b u (inl (inl s)) = from-branch k y z (x then b) true u (from-stops y (x then b) u s)
@@ -163,17 +164,17 @@ module _ (plan : Plan) (r c : ℕ) where
   abbrev pub StopsAt : Type 0
   StopsAt = Stops (plan .layout) c (plan .body) (status-of (plan .layout) c (start (plan .layout))) r
 
-  stops-begin : c < cell-count (plan .layout) → {cs : List Bool} {k : Config} → Carried plan cs k → StopsFrom (plan .layout) c r k → StopsAt
-  stops-begin i here s = s
-  stops-begin i (onward {k = k} {k′} h e) s = stops-begin i h (stops-before (plan .layout) c r i (k .left) (k .choices) (k .state) (k .history) k′ (past h) e s)
+  stops-begin : {cs : List Bool} {k : Config} → Carried plan cs k → StopsFrom (plan .layout) c r k → StopsAt
+  stops-begin here s = s
+  stops-begin (onward {k = k} {k′} h e) s = stops-begin h (stops-before (plan .layout) c r (k .left) (k .choices) (k .state) (k .history) k′ (past plan h) e s)
 
   pub sound : MayStop plan r c → StopsAt
-  sound m = stops-begin (m .cell) (m .carried) (rw (m .left) (inl (refl, sym (met-status (plan .layout) c (m .cell) (m .action) (m .config .state)) ∙ m .unmet)))
+  sound m = stops-begin (m .carried) (rw (m .left) (inl (refl, sym (met-status (plan .layout) c (m .action) (m .config .state)) ∙ m .unmet)))
 
   pub complete : c < cell-count (plan .layout) → StopsAt → MayStop plan r c
   complete h s =
-      let m : CanStop (plan .layout) c r h (plan .body) (start (plan .layout)) [] =
-      rw then-done at (from-stops (plan .layout) c r h (plan .body) done _ s (start (plan .layout)) [] (past {plan = plan} {cs = []} here) refl) in
+      let m : CanStop (plan .layout) c r (plan .body) (start (plan .layout)) [] =
+      rw then-done at (from-stops (plan .layout) c r (plan .body) done _ s (start (plan .layout)) [] (past plan {cs = []} here) refl) in
       record {
         cell = h;
         choices = m .choices;

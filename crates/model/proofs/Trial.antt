@@ -12,7 +12,8 @@ use borrow.Author.Tests.{leb-true, leb-false}
 use Rattle.model.specs.declared.Verdict.{Verdict}
 use Rattle.model.specs.declared.Verdict.the-variants.{Accepted}
 use Rattle.model.specs.Sides.{Layout, cell-count}
-use Rattle.model.specs.Effects.{Action, start}
+use Rattle.model.specs.Records.{Action}
+use Rattle.model.specs.Effects.{start}
 use Rattle.model.specs.Blocks.{Block, done, act, branch, loop, Plan}
 use Rattle.model.specs.Check.{Answers}
 use Rattle.model.proofs.Booleans.{and-out, or-out}

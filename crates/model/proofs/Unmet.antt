@@ -6,7 +6,8 @@ use mathlib.Core.Option.{Option, none, some}
 use native.Mathlib.Omega.{arith}
 use native.Mathlib.Decide.{decLt}
 use Rattle.model.specs.Sides.{Layout, cell-count}
-use Rattle.model.specs.Effects.{Action, State, met}
+use Rattle.model.specs.Records.{Action}
+use Rattle.model.specs.Effects.{State, met}
 use Rattle.model.specs.Runs.{unmet-from, lowest-unmet}
 
 module _ (layout : Layout) (x : Action) (σ : State) where

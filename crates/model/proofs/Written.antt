@@ -6,7 +6,7 @@ use mathlib.Core.List.{List, [], _∷_, _++_}
 use mathlib.Core.Bool.{Bool, true, false, cond, _&&_, _||_, false≢true, true≢false}
 use Rattle.model.specs.Lists.{any}
 use Rattle.model.specs.Sides.{Side, Layout}
-use Rattle.model.specs.Effects.{Action}
+use Rattle.model.specs.Records.{Action}
 use Rattle.model.specs.Blocks.{Block, act, branch, loop}
 use Rattle.model.specs.Judging.{Way, writes-cell, always-writes}
 use Rattle.model.specs.Claims.{ClaimWritten}

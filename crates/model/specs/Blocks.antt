@@ -1,7 +1,7 @@
 -- The records of a body as a tree (document 01, 'A record' and 'A branch or loop may hold further branches and loops').
 use Prim.Native.Nat.{ℕ, suc, _+_}
 use Rattle.model.specs.Sides.{Layout}
-use Rattle.model.specs.Effects.{Action}
+use Rattle.model.specs.Records.{Action}
 
 -- what is left to do: a record with its number, its arms if it has some, and the rest
 pub data Block : Type 0 where

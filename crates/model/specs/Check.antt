@@ -6,7 +6,8 @@ use mathlib.Core.Bool.{Bool, false}
 use Rattle.model.specs.declared.Verdict.{Verdict}
 use Rattle.model.specs.declared.Verdict.the-variants.{Accepted, Stopped, Refused}
 use Rattle.model.specs.Sides.{cell-count}
-use Rattle.model.specs.Effects.{Action, met}
+use Rattle.model.specs.Records.{Action}
+use Rattle.model.specs.Effects.{met}
 use Rattle.model.specs.Blocks.{Block, act, Plan}
 use Rattle.model.specs.Runs.{Config, carry, begin, Reached, Ends, stopped}
 

@@ -8,7 +8,7 @@ use Rattle.model.specs.declared.Verdict.{Verdict}
 use Rattle.model.specs.declared.Verdict.the-variants.{Accepted}
 use Rattle.model.specs.Lists.{any}
 use Rattle.model.specs.Sides.{Side, at, Layout, cell-count, span-of, in-span}
-use Rattle.model.specs.Effects.{Action}
+use Rattle.model.specs.Records.{Action}
 use Rattle.model.specs.Blocks.{Block, Plan}
 use Rattle.model.specs.Runs.{Config, Ending, finished, Run, Ends, tally}
 use Rattle.model.specs.Check.{Carried, Answers, Stuck}
@@ -24,11 +24,11 @@ ClaimCells = (layout : Layout) (c : ℕ) → c < cell-count layout →
 
 -- CLAIM (proofs/Stamps, `latest-tracked`): in every carried-on run a cell's latest stamp is that of its latest write
 abbrev pub ClaimLatest : Type 0
-ClaimLatest = (plan : Plan) (cs : List Bool) (k : Config) → Carried plan cs k → (c : ℕ) → k .state .latest c ≡ latest-write (plan .layout) (k .history) c
+ClaimLatest = (plan : Plan) (cs : List Bool) (k : Config) → Carried plan cs k → (c : ℕ) → k .state .cell c .latest ≡ latest-write (plan .layout) (k .history) c
 
 -- CLAIM (proofs/Stamps, `fresh`): and no copy has the stamp of the next write
 abbrev pub ClaimFresh : Type 0
-ClaimFresh = (plan : Plan) (cs : List Bool) (k : Config) → Carried plan cs k → (s : Side) (c : ℕ) → k .state .held s c ≡ at (suc (k .state .writes)) → ⊥
+ClaimFresh = (plan : Plan) (cs : List Bool) (k : Config) → Carried plan cs k → (s : Side) (c : ℕ) → k .state .cell c .held s ≡ at (suc (k .state .writes)) → ⊥
 
 -- CLAIM (proofs/Runs, `proper-carried`): what a run comes to, the carried-on run comes to
 abbrev pub ClaimCarried : Type 0

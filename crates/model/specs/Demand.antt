@@ -5,25 +5,19 @@ use mathlib.Core.List.{List, [], _∷_, _++_, map, reverseAux as onto}
 use mathlib.Core.Bool.{Bool, true, false, cond, _&&_}
 use lib.Dec.{eqb}
 use Rattle.model.specs.Lists.{any}
-use Rattle.model.specs.Sides.{Side, host, other, is, at, Layout, cell-count, span-of, Cells, within}
-use Rattle.model.specs.Effects.{Action, read, write, copy, need, mark}
+use Rattle.model.specs.Sides.{Side, host, other, same-side, at, Layout, cell-count, span-of}
+use Rattle.model.specs.Records.{read, write, need, mark, same-verb, whole, Action, whole-of, covers}
+use Rattle.model.specs.Effects.{Deed, nothing, moves}
 use Rattle.model.specs.Blocks.{Block, act}
 use Rattle.model.specs.Runs.{Event, Config, finished, stopped, Run, Ends, tally}
 use Rattle.model.specs.Judging.{Mode, R, W, RW, reads, writes, Declaration, Pass, Body0, DeclaredPlan, pass-of, Way}
 use Rattle.model.specs.Expanding.{expansion}
 
--- stamp k if the record is a write that covers cell c, else the stamp before it
-abbrev pub stamp-after : Layout → ℕ → Action → ℕ → ℕ → ℕ
-stamp-after layout c (read s x) k before = before
-stamp-after layout c (write s x) k before = cond (within layout x c) k before
-stamp-after layout c (copy s x) k before = before
-stamp-after layout c (need s a) k before = before
-stamp-after layout c (mark s a) k before = before
-
 -- "The latest write of a cell is the last executed write record that covers it, and its stamp is that record's k; before any, the stamp is 0."
 abbrev pub latest-write : Layout → List Event → ℕ → ℕ
 latest-write layout [] c = 0
-latest-write layout (e ∷ l) c = stamp-after layout c (e .action) (suc (tally layout l .writes)) (latest-write layout l c)
+latest-write layout (e ∷ l) c =
+    cond (same-verb (e .action .verb) write && covers layout (e .action) c) (suc (tally layout l .writes)) (latest-write layout l c)
 
 -- a walk through body 0, from the choices cs and the passes called before it (the last one first) to those after it:
 -- "The branches and loops inside a called pass take their choices from that list too."
@@ -51,29 +45,25 @@ pub record Made : Type 0 where
   pub declaration : Declaration
   pub copied : Bool
 
--- its needs and marks in the history, onto those before it (a mark copies nothing, so `copied` is false of a W)
+-- what a need on side s came to: a copy, or nothing
+abbrev pub copied-if : Bool → Side → Deed
+copied-if m s = cond m (moves (other s) s) nothing
+
+-- its needs and marks in the history, onto those before it (a mark comes to nothing, so `copied` is false of a W)
 abbrev pub executed : Mode → Side → ℕ → Bool → List Event → List Event
-executed R s a m l = record { action = need s a; copied = m } ∷ l
-executed W s a m l = record { action = mark s a; copied = m } ∷ l
-executed RW s a m l = record { action = mark s a; copied = false } ∷ (record { action = need s a; copied = m } ∷ l)
+executed R s a m l = record { action = whole-of need s a; deed = copied-if m s } ∷ l
+executed W s a m l = record { action = whole-of mark s a; deed = copied-if m s } ∷ l
+executed RW s a m l = record { action = whole-of mark s a; deed = nothing } ∷ (record { action = whole-of need s a; deed = copied-if m s } ∷ l)
 
 -- those of all declarations made, the last one first
 abbrev pub executed-of : List Made → List Event
 executed-of [] = []
 executed-of (d ∷ l) = executed (d .declaration .mode) (d .declaration .side) (d .declaration .array) (d .copied) (executed-of l)
 
--- whether a record is a need or a mark
-abbrev pub asks : Action → Bool
-asks (read s x) = false
-asks (write s x) = false
-asks (copy s x) = false
-asks (need s a) = true
-asks (mark s a) = true
-
 -- the needs and marks of a history
 abbrev pub asked : List Event → List Event
 asked [] = []
-asked (e ∷ l) = cond (asks (e .action)) (e ∷ asked l) (asked l)
+asked (e ∷ l) = cond (whole (e .action .verb)) (e ∷ asked l) (asked l)
 
 -- a declared write of array a: W or RW
 abbrev pub declares-write : ℕ → Made → Bool
@@ -81,12 +71,12 @@ declares-write a d = eqb (d .declaration .array) a && writes (d .declaration .mo
 
 -- R or RW of array a on side s
 abbrev pub declares-read : ℕ → Side → Made → Bool
-declares-read a s d = eqb (d .declaration .array) a && (reads (d .declaration .mode) && is (d .declaration .side) s)
+declares-read a s d = eqb (d .declaration .array) a && (reads (d .declaration .mode) && same-side (d .declaration .side) s)
 
 -- "An array moves at each need of it that copies": how often array a does
-abbrev pub moves : ℕ → List Made → ℕ
-moves a [] = 0
-moves a (d ∷ l) = cond (eqb (d .declaration .array) a && d .copied) (suc (moves a l)) (moves a l)
+abbrev pub moves-of : ℕ → List Made → ℕ
+moves-of a [] = 0
+moves-of a (d ∷ l) = cond (eqb (d .declaration .array) a && d .copied) (suc (moves-of a l)) (moves-of a l)
 
 -- "A copy moves all its cells, a need that copies the whole array": the cells that these declarations moved
 abbrev pub moved-cells : Layout → List Made → ℕ
@@ -115,17 +105,17 @@ pub record Moves (plan : DeclaredPlan) (cs : List Bool) (k : Config) : Type 0 wh
   pub executed : asked (k .history) ≡ executed-of made
   -- in each interval of each array: one move if R or RW of it is declared there on the side opposite to the first declared write, else none
   pub intervals : (a : ℕ) (w : Side) (before during after : List Made) → made ≡ after ++ (during ++ before) → Opens a before w → Closes a during after →
-      moves a during ≡ cond (any (declares-read a (other w)) during) 1 0
+      moves-of a during ≡ cond (any (declares-read a (other w)) during) 1 0
 
 -- Demand 3: "a single claim about a plan and the whole list of choices"
 pub record Demand3 (plan : DeclaredPlan) (cs : List Bool) : Type 0 where
   -- no record gets stuck
   pub unstuck : (k : Config) (r c : ℕ) → Ends (expansion plan) cs k (stopped r c) → ⊥
   -- every read gets the stamp of the latest write ("A read gets its cells' copies on its side")
-  pub reads : (k : Config) → Run (expansion plan) cs k → (r : ℕ) (s : Side) (x : Cells) (b : Block) → k .left ≡ act r (read s x) b →
-      (c : ℕ) → c < cell-count (plan .layout) → within (plan .layout) x c ≡ true → k .state .held s c ≡ at (latest-write (plan .layout) (k .history) c)
+  pub reads : (k : Config) → Run (expansion plan) cs k → (r : ℕ) (x : Action) (b : Block) → k .left ≡ act r x b → x .verb ≡ read →
+      (c : ℕ) → c < cell-count (plan .layout) → covers (plan .layout) x c ≡ true → k .state .cell c .held (x .side) ≡ at (latest-write (plan .layout) (k .history) c)
   -- at each moment each cell is current on some side: a copy of it holds the stamp of the latest write
   pub current : (k : Config) → Run (expansion plan) cs k → (c : ℕ) → c < cell-count (plan .layout) →
-      (s : Side) × (k .state .held s c ≡ at (latest-write (plan .layout) (k .history) c))
+      (s : Side) × (k .state .cell c .held s ≡ at (latest-write (plan .layout) (k .history) c))
   -- in a finished run each array moves exactly when it must between two declared writes
   pub moved : (k : Config) → Ends (expansion plan) cs k finished → Moves plan cs k

@@ -2,15 +2,15 @@
 use Prim.Native.Nat.{ℕ}
 use mathlib.Core.List.{List, [], _∷_}
 use Rattle.model.specs.Sides.{Side}
-use Rattle.model.specs.Effects.{need, mark}
+use Rattle.model.specs.Records.{need, mark, whole-of}
 use Rattle.model.specs.Blocks.{Block, act, branch, loop, _then_, numbered, Plan}
 use Rattle.model.specs.Judging.{Mode, R, W, RW, Declaration, Pass, Body0, DeclaredPlan, pass-of}
 
 -- "R gives need; W gives mark; RW gives need, mark", and then the rest (the records get their numbers at the end)
 abbrev pub given : Mode → Side → ℕ → Block → Block
-given R s a rest = act 0 (need s a) rest
-given W s a rest = act 0 (mark s a) rest
-given RW s a rest = act 0 (need s a) (act 0 (mark s a) rest)
+given R s a rest = act 0 (whole-of need s a) rest
+given W s a rest = act 0 (whole-of mark s a) rest
+given RW s a rest = act 0 (whole-of need s a) (act 0 (whole-of mark s a) rest)
 
 -- "the pass's declarations in order"
 abbrev pub declared : List Declaration → Block → Block

@@ -5,8 +5,8 @@ use mathlib.Core.List.{List, [], _∷_, _++_}
 use mathlib.Core.Bool.{Bool, true, false, cond, not, _&&_, _||_}
 use lib.Dec.{eqb}
 use Rattle.model.specs.Lists.{any, All}
-use Rattle.model.specs.Sides.{Side, is, Layout, span-of, in-span, within}
-use Rattle.model.specs.Effects.{Action, read, write, copy, need, mark}
+use Rattle.model.specs.Sides.{Side, same-side, Layout, span-of, in-span}
+use Rattle.model.specs.Records.{Verb, read, write, copy, need, mark, same-verb, Action, covers}
 use Rattle.model.specs.Blocks.{Block}
 
 -- "16 R, 17 W, 18 RW"
@@ -65,17 +65,22 @@ abbrev pub declared-once : List Declaration → Bool
 declared-once [] = true
 declared-once (d ∷ ds) = not (any (λ (e : Declaration). eqb (e .array) (d .array)) ds) && declared-once ds
 
+-- the modes that a record of a pass needs: "A read needs R or RW of its array on its side, a write W or RW."
+abbrev pub allowed-by : Verb → Mode → Bool
+allowed-by read m = reads m
+allowed-by write m = writes m
+-- "Kinds 3, 4, 5 are barred."
+allowed-by copy m = false
+allowed-by need m = false
+allowed-by mark m = false
+
 -- whether the declarations have array a on side s, with such a mode
 abbrev pub declares : (Mode → Bool) → Side → ℕ → List Declaration → Bool
-declares fits s a ds = any (λ (d : Declaration). fits (d .mode) && (is (d .side) s && eqb (d .array) a)) ds
+declares fits s a ds = any (λ (d : Declaration). fits (d .mode) && (same-side (d .side) s && eqb (d .array) a)) ds
 
--- "A read needs R or RW of its array on its side, a write W or RW. Kinds 3, 4, 5 are barred."
+-- whether the declarations allow a record
 abbrev pub permits : List Declaration → Action → Bool
-permits ds (read s x) = declares reads s (x .array) ds
-permits ds (write s x) = declares writes s (x .array) ds
-permits ds (copy s x) = false
-permits ds (need s a) = false
-permits ds (mark s a) = false
+permits ds x = declares (allowed-by (x .verb)) (x .side) (x .name) ds
 
 -- whether every record of a block, those of its arms included, passes the test
 abbrev pub every : (Action → Bool) → Block → Bool
@@ -96,11 +101,7 @@ pub data Way : Block → List Bool → List Bool → List Action → Type 0 wher
 
 -- whether a record writes cell c on side s
 abbrev pub writes-cell : Layout → Side → ℕ → Action → Bool
-writes-cell layout s c (read t x) = false
-writes-cell layout s c (write t x) = is t s && within layout x c
-writes-cell layout s c (copy t x) = false
-writes-cell layout s c (need t a) = false
-writes-cell layout s c (mark t a) = false
+writes-cell layout s c x = same-verb (x .verb) write && (same-side (x .side) s && covers layout x c)
 
 -- "every way through the pass, stops aside, writes every cell of the array on that side"
 abbrev pub Written : Layout → Block → Declaration → Type 0

@@ -2,6 +2,7 @@
 pub mod Lists
 pub mod Rows
 pub mod Sides
+pub mod Records
 pub mod Effects
 pub mod Blocks
 pub mod Runs

@@ -1,6 +1,6 @@
 -- Words on lists, and one on places in memory, for the definitions after them.
 use Prim.Native.Nat.{ℕ, zero, suc, _+_}
-use mathlib.Core.Bool.{Bool, false, _||_}
+use mathlib.Core.Bool.{Bool, false, cond, _||_}
 use mathlib.Core.List.{List, [], _∷_}
 
 module _ {A : Type 0} where
@@ -24,6 +24,11 @@ unfoldable pub sum-before : List ℕ → ℕ → ℕ
 sum-before [] k = 0
 sum-before (n ∷ l) zero = 0
 sum-before (n ∷ l) (suc k) = n + sum-before l k
+
+-- how many of the numbers below n pass the test
+abbrev pub how-many : (ℕ → Bool) → ℕ → ℕ
+how-many f zero = 0
+how-many f (suc n) = cond (f n) (suc (how-many f n)) (how-many f n)
 
 -- a place in memory is a block and a byte in it: the place n bytes further on in the same block
 abbrev pub further : ℕ × ℕ → ℕ → ℕ × ℕ

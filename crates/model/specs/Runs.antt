@@ -1,26 +1,19 @@
 -- Runs of a plan on a list of choices (document 01, 'Sides, cells, stamps', 'Running and viewing' and 'The words of demand 3').
-use Prim.Native.Nat.{ℕ, zero, suc, _+_, _-_}
+use Prim.Native.Nat.{ℕ, zero, suc}
 use mathlib.Core.Path.{_≡_}
 use mathlib.Core.List.{List, [], _∷_}
-use mathlib.Core.Bool.{Bool, false, cond, not}
+use mathlib.Core.Bool.{Bool, cond}
 use mathlib.Core.Option.{Option, none, some}
 use Rattle.model.specs.declared.Tally.{Tally}
-use Rattle.model.specs.Sides.{Layout, cell-count, span-of}
-use Rattle.model.specs.Effects.{Action, read, write, copy, need, mark, State, start, met, effect}
+use Rattle.model.specs.Sides.{Layout, cell-count}
+use Rattle.model.specs.Records.{Action, cover-count}
+use Rattle.model.specs.Effects.{State, Deed, start, counted, deed, met, effect}
 use Rattle.model.specs.Blocks.{Block, done, act, branch, loop, _then_, Plan}
 
--- whether a record is a need that copies
-abbrev pub copies : Action → State → Bool
-copies (read s x) σ = false
-copies (write s x) σ = false
-copies (copy s x) σ = false
-copies (need s a) σ = not (σ .flag s a)
-copies (mark s a) σ = false
-
--- an executed record, and whether it is a need that copied
+-- an executed record, and what it came to
 pub record Event : Type 0 where
   pub action : Action
-  pub copied : Bool
+  pub deed : Deed
 
 -- where a run stands: what is left, the choices left (true: "first arm or one more turn"), the state,
 -- and the records executed so far, the last one first
@@ -55,7 +48,7 @@ carry layout k = go (k .left) (k .choices)
       left = b;
       choices = cs;
       state = effect layout x (k .state);
-      history = record { action = x; copied = copies x (k .state) } ∷ k .history;
+      history = record { action = x; deed = deed x (k .state) } ∷ k .history;
     })
     go (branch r x y b) [] = ends (out-of-choices r)
     go (branch r x y b) (c ∷ cs) = to (cond c x y then b) cs
@@ -105,15 +98,7 @@ pub record Ends (plan : Plan) (cs : List Bool) (k : Config) (e : Ending) : Type 
   pub run : Run plan cs k
   pub last : step (plan .layout) k ≡ ends e
 
--- one executed record more: "A copy moves all its cells, a need that copies the whole array."
-abbrev pub counted : Layout → Action → Bool → Tally → Tally
-counted layout (read s x) m t = record { reads = suc (t .reads); writes = t .writes; moved = t .moved }
-counted layout (write s x) m t = record { reads = t .reads; writes = suc (t .writes); moved = t .moved }
-counted layout (copy s x) m t = record { reads = t .reads; writes = t .writes; moved = t .moved + (x .q - x .p) }
-counted layout (need s a) m t = record { reads = t .reads; writes = t .writes; moved = t .moved + cond m (span-of layout a .length) 0 }
-counted layout (mark s a) m t = t
-
--- the tally of a history: "read records, write records, cells moved, from zero"
+-- the tally of a history: "read records, write records, cells moved, from zero"; "A copy moves all its cells, a need that copies the whole array."
 abbrev pub tally : Layout → List Event → Tally
 tally layout [] = record { reads = 0; writes = 0; moved = 0 }
-tally layout (e ∷ l) = counted layout (e .action) (e .copied) (tally layout l)
+tally layout (e ∷ l) = counted (e .deed) (cover-count layout (e .action)) (tally layout l)

@@ -1,6 +1,6 @@
 -- Sides, cells, stamps (document 01, 'Sides, cells, stamps').
 use Prim.Native.Nat.{ℕ, _+_}
-use mathlib.Core.Bool.{Bool, true, false, _&&_}
+use mathlib.Core.Bool.{Bool, false, _&&_}
 use mathlib.Core.List.{List}
 use lib.ListN.{getD}
 use lib.Dec.{ltb, leb, eqb}
@@ -15,12 +15,14 @@ abbrev pub other : Side → Side
 other host = card
 other card = host
 
+-- a side's number in the file
+abbrev pub side-number : Side → ℕ
+side-number host = 0
+side-number card = 1
+
 -- whether two sides are the same
-abbrev pub is : Side → Side → Bool
-is host host = true
-is host card = false
-is card host = false
-is card card = true
+abbrev pub same-side : Side → Side → Bool
+same-side s t = eqb (side-number s) (side-number t)
 
 -- "stamps are whole numbers without limit and "never" equals none of them"
 pub data Stamp : Type 0 where
@@ -45,22 +47,10 @@ pub record Span : Type 0 where
   pub first : ℕ
   pub length : ℕ
 
--- the cells of array a
+-- the cells of name n: a name is what a record or a declaration speaks of, here array n
 abbrev pub span-of : Layout → ℕ → Span
-span-of layout a = record { first = sum-before (layout .lengths) a; length = getD (layout .lengths) a 0 }
+span-of layout n = record { first = sum-before (layout .lengths) n; length = getD (layout .lengths) n 0 }
 
 -- whether cell c is one of them
 abbrev pub in-span : Span → ℕ → Bool
 in-span these c = leb (these .first) c && ltb c (these .first + these .length)
-
--- "cells P to Q − 1 of the array"
-pub record Cells : Type 0 where
-  pub array : ℕ
-  pub p : ℕ
-  pub q : ℕ
-
--- whether cell c is one of them
-unfoldable pub within : Layout → Cells → ℕ → Bool
-within layout x c =
-    let these = span-of layout (x .array) in
-    in-span these c && (leb (these .first + x .p) c && ltb c (these .first + x .q))

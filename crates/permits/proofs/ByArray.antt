@@ -12,8 +12,9 @@ use lib.ListN.{getD, set, replicate}
 use borrow.Author.Tests.{lt-ltb, le-ltb, eq-eqb, ne-eqb, eqb-true, not-false}
 use Rattle.model.specs.declared.Verdict.the-variants.{Accepted, Refused}
 use Rattle.model.specs.Lists.{any}
-use Rattle.model.specs.Sides.{is}
-use Rattle.model.specs.Judging.{Mode, R, W, RW, reads, writes, Declaration, declares, permits}
+use Rattle.model.specs.Sides.{same-side}
+use Rattle.model.specs.Records.{read, write}
+use Rattle.model.specs.Judging.{Mode, R, W, RW, reads, writes, Declaration, allowed-by, declares, permits}
 use Rattle.model.proofs.Booleans.{any-append}
 use Rattle.reading.specs.declared.Fields.{Fields}
 use Rattle.model.specs.Rows.{row, first}
@@ -27,9 +28,9 @@ use Rattle.reading.proofs.Tables.{getD-table, set-table}
 use Rattle.passes.specs.declared.Extent.{Extent}
 use Rattle.permits.specs.Permits.{declared-before, record-rows}
 use Rattle.passes.specs.Inner.Passes.{PassAt}
-use Rattle.permits.specs.Inner.Uses.{declared-field, kinds-of, sides-of, Sides, ByArray, permitted, use-rows}
+use Rattle.permits.specs.Inner.Uses.{declared-field, kinds-of, Sides, ByArray, permitted, use-rows}
 use Rattle.marks.specs.Inner.Marks.{Tables}
-use Rattle.marks.proofs.Walks.{same-side}
+use Rattle.marks.proofs.Walks.{sides-agree}
 use Rattle.passes.proofs.Records.{facts, arrays-low, declaration-kind, declaration-array, other-kind, other-array, other-side}
 
 -- the declarations from record r on
@@ -66,18 +67,18 @@ module _ (f : List ℕ) (r : ℕ) where
     unfolding table declared-field declaration-of
     declares-is zero k = rw none
     declares-is (suc n) k =
-        any-append (λ (d : Declaration). fits (d .mode) && (is (d .side) (side-of s) && eqb (d .array) a)) (table (declared f r) n) _
+        any-append (λ (d : Declaration). fits (d .mode) && (same-side (d .side) (side-of s) && eqb (d .array) a)) (table (declared f r) n) _
         ∙ go (eqb (fields-at f (r + n) .array) a) refl _ (declares-is n (λ i h. k i (omega arith)))
       where
         go : (b : Bool) → eqb (fields-at f (r + n) .array) a ≡ b → (earlier : Bool) → earlier ≡ (test (kind-in f r n a) && eqb (side-in f r n a) s) →
-            (earlier || ((fits (declared f r n .mode) && (is (side-of (fields-at f (r + n) .side)) (side-of s) && b)) || false))
+            (earlier || ((fits (declared f r n .mode) && (same-side (side-of (fields-at f (r + n) .side)) (side-of s) && b)) || false))
             ≡ (test (cond b (fields-at f (r + n) .kind) (kind-in f r n a)) && eqb (cond b (fields-at f (r + n) .side) (side-in f r n a)) s)
         go true e earlier ih =
             let z : kind-in f r n a ≡ 0 = rw (eqb-true (fields-at f (r + n) .array) a e) at (k n (omega arith) .2) in
             let x = fields-at f (r + n) in
             let no : earlier ≡ false = ih ∙ rw (z, none) in
-            rw (no, k n (omega arith) .0, same-side (x .side) s (k n (omega arith) .1) low, and-true (eqb (x .side) s)) (or-false (test (x .kind) && eqb (x .side) s))
-        go false e earlier ih = rw (and-false (is (side-of (fields-at f (r + n) .side)) (side-of s)), and-false (fits (declared f r n .mode))) (or-false earlier ∙ ih)
+            rw (no, k n (omega arith) .0, sides-agree (x .side) s (k n (omega arith) .1) low, and-true (eqb (x .side) s)) (or-false (test (x .kind) && eqb (x .side) s))
+        go false e earlier ih = rw (and-false (same-side (side-of (fields-at f (r + n) .side)) (side-of s)), and-false (fits (declared f r n .mode))) (or-false earlier ∙ ih)
 
 -- the kinds that permit a read or write with the fields x
 abbrev permitting : Fields → ℕ → Bool
@@ -177,8 +178,8 @@ module _ (f : List ℕ) (e : Extent) (p : PassAt f e) where
     permits-is : 1 ≤ x .kind → x .kind ≤ 2 → permits (pass-at f (e .body) .declarations) (action-of x) ≡ permitted x kind-at side-at
     unfolding action-of
     permits-is h l = elim (ℕᴺ-discrete (x .kind) 1) [
-      | yes k ↦ rw (eq-eqb (x .kind) 1 k) (declares-at reads (by-kind (λ j. reads (cond (eqb j 16) R (cond (eqb j 17) W RW)) ≡ permitting x j) (rw k) (rw k) (rw k)) (rw k))
-      | no n ↦ let k : x .kind ≡ 2 = omega arith in rw (ne-eqb (x .kind) 1 n, eq-eqb (x .kind) 2 k) (declares-at writes (by-kind (λ j. writes (cond (eqb j 16) R (cond (eqb j 17) W RW)) ≡ permitting x j) (rw k) (rw k) (rw k)) (rw k))
+      | yes k ↦ rw (eq-eqb (x .kind) 1 k) (declares-at (allowed-by read) (by-kind (λ j. reads (cond (eqb j 16) R (cond (eqb j 17) W RW)) ≡ permitting x j) (rw k) (rw k) (rw k)) (rw k))
+      | no n ↦ let k : x .kind ≡ 2 = omega arith in rw (ne-eqb (x .kind) 1 n, eq-eqb (x .kind) 2 k) (declares-at (allowed-by write) (by-kind (λ j. writes (cond (eqb j 16) R (cond (eqb j 17) W RW)) ≡ permitting x j) (rw k) (rw k) (rw k)) (rw k))
     ]
 
   -- record i after the declarations: its numbers by the declaration of its array

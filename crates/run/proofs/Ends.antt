@@ -46,7 +46,7 @@ module _ (n : ℕ) (held : ℕ → ℕ) (before after : List ℕ) (room : n ≤ 
 -- a run that has ended, from memories h, c and l and a tally t
 module _ (f choices : List ℕ) (m : Runner) (own others latest : List ℕ) (u : Tally) (w : Reaches f choices m own others latest u) (still : m .running ≡ false)
     (h c l : List ℕ) (t : Tally) (sh : Same (cell-count (layout-of f)) h own) (sc : Same (cell-count (layout-of f)) c others) (sl : Same (cell-count (layout-of f)) l latest)
-    (answer : End) (q : answer ≡ end-with (length (lengths-of f)) (w .config .state .flag host) (w .config .state .flag card) (m .place .used) (m .verdict)) where
+    (answer : End) (q : answer ≡ end-with (length (lengths-of f)) (λ a. w .config .state .flags a .flag host) (λ a. w .config .state .flags a .flag card) (m .place .used) (m .verdict)) where
   abbrev k : Config
   k = w .config
 
@@ -55,9 +55,9 @@ module _ (f choices : List ℕ) (m : Runner) (own others latest : List ℕ) (u :
 
   last-lent : lent own others latest u ≡ holding layout k (lent h c l t)
   last-lent =
-      let a = memory-is (cell-count layout) (λ i. number-of (k .state .held host i)) h own (omega (arith, w .stands .holds .own-room, sh .size)) sh (w .stands .holds .own-held) in
-      let b = memory-is (cell-count layout) (λ i. number-of (k .state .held card i)) c others (omega (arith, w .stands .holds .others-room, sc .size)) sc (w .stands .holds .others-held) in
-      let d = memory-is (cell-count layout) (k .state .latest) l latest (omega (arith, w .stands .holds .latest-room, sl .size)) sl (w .stands .holds .latest-held) in
+      let a = memory-is (cell-count layout) (λ i. number-of (k .state .cell i .held host)) h own (omega (arith, w .stands .holds .own-room, sh .size)) sh (w .stands .holds .own-held) in
+      let b = memory-is (cell-count layout) (λ i. number-of (k .state .cell i .held card)) c others (omega (arith, w .stands .holds .others-room, sc .size)) sc (w .stands .holds .others-held) in
+      let d = memory-is (cell-count layout) (λ c. k .state .cell c .latest) l latest (omega (arith, w .stands .holds .latest-room, sl .size)) sl (w .stands .holds .latest-held) in
       λ i. record { host = a i; card = b i; latest = d i; tally = record { reads = w .stands .holds .reads i; writes = w .stands .holds .writes i; moved = w .stands .holds .moved i } }
 
   used-is : m .place .used ≡ length (choices-of choices) - length (k .choices)
@@ -68,13 +68,13 @@ module _ (f choices : List ℕ) (m : Runner) (own others latest : List ℕ) (u :
   ran-as e s a = record { config = k; ending = e; ends = record { run = w .run; last = s }; holds = last-lent; answers = a }
 
   pub ran : Ran f choices (lent h c l t) (lent own others latest u) answer
-  ran = go (over .ending) (over .last) (q ∙ ap (end-with (length (layout .lengths)) (k .state .flag host) (k .state .flag card) (m .place .used)) (over .says))
+  ran = go (over .ending) (over .last) (q ∙ ap (end-with (length (layout .lengths)) (λ a. k .state .flags a .flag host) (λ a. k .state .flags a .flag card) (m .place .used)) (over .says))
     where
       over : Over f k (m .verdict)
       over = rw still at (w .ended)
 
-      go : (e : Ending) → step layout k ≡ Step.ends e → answer ≡ end-with (length (layout .lengths)) (k .state .flag host) (k .state .flag card) (m .place .used) (said-of e) → Ran f choices (lent h c l t) (lent own others latest u) answer
-      go finished s a = ran-as finished s (a ∙ ap (λ v. end-with (length (layout .lengths)) (k .state .flag host) (k .state .flag card) v Accepted) used-is)
+      go : (e : Ending) → step layout k ≡ Step.ends e → answer ≡ end-with (length (layout .lengths)) (λ a. k .state .flags a .flag host) (λ a. k .state .flags a .flag card) (m .place .used) (said-of e) → Ran f choices (lent h c l t) (lent own others latest u) answer
+      go finished s a = ran-as finished s (a ∙ ap (λ v. end-with (length (layout .lengths)) (λ a. k .state .flags a .flag host) (λ a. k .state .flags a .flag card) v Accepted) used-is)
       go (stopped r d) s a = ran-as (stopped r d) s a
       go (out-of-choices r) s a = ran-as (out-of-choices r) s a
 

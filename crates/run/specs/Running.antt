@@ -1,5 +1,5 @@
 -- The run of a plan file (document 01, 'Running and viewing' and 'Numbers by the place where each is checked').
-use Prim.Native.Nat.{ℕ, _+_, _-_}
+use Prim.Native.Nat.{ℕ, _-_}
 use mathlib.Core.Path.{_≡_}
 use mathlib.Core.Bool.{Bool, not, _||_}
 use mathlib.Core.List.{List, [], _∷_, _++_}
@@ -49,9 +49,9 @@ abbrev pub holding : Layout → Config → Lent → Lent
 holding layout k before =
     let n = cell-count layout in
     record {
-      host = memory n (λ c. number-of (k .state .held host c)) (before .host);
-      card = memory n (λ c. number-of (k .state .held card c)) (before .card);
-      latest = memory n (k .state .latest) (before .latest);
+      host = memory n (λ c. number-of (k .state .cell c .held host)) (before .host);
+      card = memory n (λ c. number-of (k .state .cell c .held card)) (before .card);
+      latest = memory n (λ c. k .state .cell c .latest) (before .latest);
       tally = tally layout (k .history);
     }
 
@@ -67,10 +67,10 @@ end-of layout cs k finished =
     record {
       verdict = Accepted;
       used = length cs - length (k .choices);
-      «host_flags» = mask n (k .state .flag host);
-      «card_flags» = mask n (k .state .flag card);
-      «on_host» = set-flags n (k .state .flag host);
-      «on_card» = set-flags n (k .state .flag card);
+      «host_flags» = mask n (λ a. k .state .flags a .flag host);
+      «card_flags» = mask n (λ a. k .state .flags a .flag card);
+      «on_host» = set-flags n (λ a. k .state .flags a .flag host);
+      «on_card» = set-flags n (λ a. k .state .flags a .flag card);
     }
 end-of layout cs k (stopped r c) = no-end (stop r c)
 end-of layout cs k (out-of-choices r) = no-end (Refused 22 r)

@@ -10,8 +10,8 @@ use lib.Dec.{eqb}
 use borrow.Author.Tests.{eq-eqb, ne-eqb}
 use Rattle.model.specs.Lists.{sum-before}
 use Rattle.model.specs.Inner.Holders.{holder}
-use Rattle.model.specs.Sides.{within}
-use Rattle.model.specs.Effects.{Action, start}
+use Rattle.model.specs.Records.{Action, covers}
+use Rattle.model.specs.Effects.{start}
 use Rattle.model.specs.Runs.{Ending, stopped, here}
 use Rattle.model.proofs.Stamps.{past}
 use Rattle.model.proofs.Status.{Status, met-in, status-after}
@@ -36,16 +36,16 @@ module _ (test : Option Ending → Bool) where
 
   -- the card alone is as good as the host alone
   mirrored : (n r : ℕ) → by-status test n r on-card ≡ by-status test n r on-host
-  unfolding within holder sum-before
+  unfolding covers holder sum-before
   mirrored zero r = refl
   mirrored (suc n) r = let e = mirrored n (suc r) in omega arith
 
   from-one : (n r : ℕ) → by-status test (suc n) r on-host ≡ 3 * by-status test n (suc r) on-host + by-status test n (suc r) on-both + 2 * stop n r
-  unfolding within holder sum-before
+  unfolding covers holder sum-before
   from-one n r = let e = mirrored n (suc r) in omega arith
 
   from-both : (n r : ℕ) → by-status test (suc n) r on-both ≡ 2 * by-status test n (suc r) on-host + 4 * by-status test n (suc r) on-both
-  unfolding within holder sum-before
+  unfolding covers holder sum-before
   from-both n r = let e = mirrored n (suc r) in omega arith
 
   -- so many sequences that leave the cell current on one side, so many that leave it on both, and all that follows them
@@ -93,7 +93,7 @@ unfolding figures
 figures-counted n = ap₂ _++_ (map-from _ _ 1 n (λ p h. run (stops-at p))) (ap (λ k. k ∷ []) (run passes)) ∙ all-weighed n 0 1 0
   where
     run : (test : Option Ending → Bool) → count (λ l. test (ending-of l)) (sequences n) ≡ weighed test n 0 1 0
-    run test = by-run test n 0 (start one-cell) [] (past {plan = plan-of []} {cs = []} here) ∙ omega arith
+    run test = by-run test n 0 (start one-cell) [] (past (plan-of []) {cs = []} here) ∙ omega arith
 
 total-counted : (n one both : ℕ) → total (counted n one both) ≡ (one + both) * 6 ^ n
 total-counted zero one both = omega arith

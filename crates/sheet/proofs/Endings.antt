@@ -4,7 +4,8 @@ use mathlib.Core.Path.{_≡_, refl, ap, _∙_}
 use mathlib.Core.List.{List, [], _∷_}
 use mathlib.Core.Option.{Option, none, some}
 use lib.ListN.{length}
-use Rattle.model.specs.Effects.{Action, State, effect}
+use Rattle.model.specs.Records.{Action}
+use Rattle.model.specs.Effects.{State, effect}
 use Rattle.model.specs.Runs.{Event, Config, Ending, finished, stopped, next, stop-or, lowest-unmet, here, onward, Run, Ends}
 use Rattle.model.proofs.Runs.{config, event}
 use Rattle.sheet.specs.Sheets.{one-cell, records, plan-of, after-step, ending-in}

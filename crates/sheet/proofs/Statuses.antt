@@ -7,7 +7,8 @@ use mathlib.Core.Option.{Option, none, some}
 use native.Mathlib.Omega.{arith}
 use native.Mathlib.Nat.{pow-suc}
 use lib.ListN.{length}
-use Rattle.model.specs.Effects.{Action, State, met, effect}
+use Rattle.model.specs.Records.{Action}
+use Rattle.model.specs.Effects.{State, met, effect}
 use Rattle.model.specs.Runs.{Event, Ending, finished, stopped, next, stop-or}
 use Rattle.model.proofs.Runs.{config, event}
 use Rattle.model.proofs.Stamps.{Past, past-effect}
@@ -91,7 +92,7 @@ module _ (test : Option Ending → Bool) where
       each : (x : Action) → count (λ l. test (ending x true l)) (sequences n) ≡ by-status n (suc r) (status-of one-cell 0 (effect one-cell x σ)) →
           count (λ l. test (ending x (met one-cell x σ 0) l)) (sequences n) ≡
           cond (met-in one-cell 0 x u) (by-status n (suc r) (status-after one-cell 0 x u)) (cond (test (some (stopped r 0))) (6 ^ n) 0)
-      each x more = rw (← met-status one-cell 0 (omega arith) x σ, ← status-effect one-cell 0 (omega arith) x σ p) (go (met one-cell x σ 0))
+      each x more = rw (← met-status one-cell 0 x σ, ← status-effect one-cell 0 x σ p) (go (met one-cell x σ 0))
         where
           go : (b : Bool) → count (λ l. test (ending x b l)) (sequences n) ≡ cond b (by-status n (suc r) (status-of one-cell 0 (effect one-cell x σ))) (cond (test (some (stopped r 0))) (6 ^ n) 0)
           go true = more

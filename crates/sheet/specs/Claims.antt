@@ -4,7 +4,7 @@ use mathlib.Core.Path.{_≡_}
 use mathlib.Core.List.{List, [], _∷_}
 use mathlib.Core.Option.{some}
 use lib.ListN.{length}
-use Rattle.model.specs.Effects.{Action}
+use Rattle.model.specs.Records.{Action}
 use Rattle.model.specs.Runs.{Config, Ending, Ends}
 use Rattle.sheet.specs.Sheets.{sequences, plan-of, ending-of, figures}
 

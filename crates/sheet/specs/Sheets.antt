@@ -8,21 +8,19 @@ use lib.Dec.{eqb, ltb}
 use Rattle.model.specs.declared.Verdict.{Verdict}
 use Rattle.model.specs.declared.Verdict.the-variants.{Accepted, Stopped, Refused}
 use Rattle.model.specs.Rows.{row, first}
-use Rattle.model.specs.Sides.{host, card, Layout, Cells}
-use Rattle.model.specs.Effects.{Action, read, write, copy}
+use Rattle.model.specs.Sides.{host, card, Layout}
+use Rattle.model.specs.Records.{read, write, copy, Action}
 use Rattle.model.specs.Blocks.{Block, done, act, Plan}
 use Rattle.model.specs.Runs.{Config, Ending, finished, stopped, out-of-choices, Step, next, ends, step, begin}
+use Rattle.model.specs.Cases.{_on_}
 
 -- "over one cell": one array of one cell
 abbrev pub one-cell : Layout
 one-cell = record { lengths = 1 ∷ [] }
 
-abbrev pub cell : Cells
-cell = record { array = 0; p = 0; q = 1 }
-
 -- "The six operations are read, write and copy, each on either side."
 abbrev pub operations : List Action
-operations = read host cell ∷ read card cell ∷ write host cell ∷ write card cell ∷ copy host cell ∷ copy card cell ∷ []
+operations = read on host ∷ read on card ∷ write on host ∷ write on card ∷ copy on host ∷ copy on card ∷ []
 
 -- "the 6^n sequences": each operation in front of each shorter sequence
 unfoldable pub sequences : ℕ → List (List Action)

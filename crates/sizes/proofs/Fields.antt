@@ -4,15 +4,18 @@ use mathlib.Core.Bool.{Bool, true, _&&_}
 use mathlib.Core.List.{List}
 use Prim.Native.Nat.{ℕ, _≤_, _<_}
 use native.Nat.{ℕᴺ-discrete}
+use native.Mathlib.Decide.{decLt}
 use native.Mathlib.Omega.{arith}
 use lib.Dec.{ltb, leb, eqb}
 use borrow.Author.Tests.{ltb-true, leb-true, eqb-true, eq-eqb, ne-eqb}
+use Rattle.model.specs.Records.{kind}
 use Rattle.model.proofs.Booleans.{and-out}
 use Rattle.reading.specs.declared.Fields.{Fields}
 use Rattle.reading.specs.Bytes.{array-count, body-count, length-at, first-arm, second-arm}
 use Rattle.rules.specs.Rules.{fields-fit}
-use Rattle.format.specs.Plans.{side-of, action-of}
-use Rattle.files.specs.Files.{side-number, fields, action-fields}
+use Rattle.format.specs.Plans.{action-of}
+use Rattle.format.proofs.Acts.{by-kind}
+use Rattle.files.specs.Files.{fields, action-fields}
 use Rattle.reading.proofs.Ranges.{in-range}
 use Rattle.files.proofs.Given.{side-again}
 use Rattle.rules.proofs.Fields.{Sizes, fit-cells, fit-array, fit-declaration, fit-branch, fit-loop, fit-call}
@@ -26,43 +29,30 @@ module _ (f : List ℕ) (x : Fields) (fits : fields-fit f x ≡ true) where
   sizes = record { arrays-are = refl; bodies-are = refl; size-is = refl }
 
   -- what kinds 1 to 5 and 16 to 18 have in common
-  on-side : (b c : Bool) → (ltb (x .side) 2 && ltb (x .array) (array-count f) && eqb (x .zero) 0 && b && c) ≡ true → (x .side < 2) × (x .zero ≡ 0) × (b ≡ true) × (c ≡ true)
+  on-side : (b c : Bool) → (ltb (x .side) 2 && ltb (x .array) (array-count f) && eqb (x .zero) 0 && b && c) ≡ true → (x .side < 2) × (x .zero ≡ 0)
   on-side b c e =
       let w₁ = and-out (ltb (x .side) 2 && ltb (x .array) (array-count f) && eqb (x .zero) 0 && b) c e in
       let w₂ = and-out (ltb (x .side) 2 && ltb (x .array) (array-count f) && eqb (x .zero) 0) b (w₁ .0) in
       let w₃ = and-out (ltb (x .side) 2 && ltb (x .array) (array-count f)) (eqb (x .zero) 0) (w₂ .0) in
       let w₄ = and-out (ltb (x .side) 2) (ltb (x .array) (array-count f)) (w₃ .0) in
-      (ltb-true _ _ (w₄ .0), eqb-true _ _ (w₃ .1), w₂ .1, w₁ .1)
+      (ltb-true _ _ (w₄ .0), eqb-true _ _ (w₃ .1))
 
   pub declaration-side : 16 ≤ x .kind → x .kind ≤ 18 → x .side < 2
   declaration-side h k = on-side _ _ (fit-declaration f x _ _ _ sizes h k ∙ fits) .0
 
-  cells-record : (kind : ℕ) → x .kind ≡ kind → 1 ≤ kind → kind ≤ 3 → fields kind (side-number (side-of (x .side))) (x .array) (x .p) (x .q) ≡ x
-  cells-record kind e h k =
-      let w = on-side _ _ (fit-cells f x _ _ _ sizes (omega arith) (omega arith) ∙ fits) in
-      sym (fields-are x _ _ _ _ _ e (sym (side-again (x .side) (w .0))) refl (w .1) refl refl)
-
-  array-record : (kind : ℕ) → x .kind ≡ kind → 4 ≤ kind → kind ≤ 5 → fields kind (side-number (side-of (x .side))) (x .array) 0 0 ≡ x
-  array-record kind e h k =
-      let w = on-side _ _ (fit-array f x _ _ _ sizes (omega arith) (omega arith) ∙ fits) in
-      sym (fields-are x _ _ _ _ _ e (sym (side-again (x .side) (w .0))) refl (w .1) (eqb-true _ _ (w .2)) (eqb-true _ _ (w .3)))
+  action-side : 1 ≤ x .kind → x .kind ≤ 5 → (x .side < 2) × (x .zero ≡ 0)
+  action-side h k = elim (decLt 3 (x .kind)) [
+    | yes l ↦ on-side _ _ (fit-array f x _ _ _ sizes (omega arith) k ∙ fits)
+    | no l ↦ on-side _ _ (fit-cells f x _ _ _ sizes h (omega arith) ∙ fits)
+  ]
 
   -- "1 read, 2 write, 3 copy .. 4 need, 5 mark"
   pub action-again : 1 ≤ x .kind → x .kind ≤ 5 → action-fields (action-of x) ≡ x
   unfolding action-of
-  action-again h k = elim (ℕᴺ-discrete (x .kind) 1) [
-    | yes e ↦ simp (eq-eqb (x .kind) 1 e) (cells-record 1 e (omega arith) (omega arith))
-    | no n₁ ↦ elim (ℕᴺ-discrete (x .kind) 2) [
-      | yes e ↦ simp (ne-eqb (x .kind) 1 n₁, eq-eqb (x .kind) 2 e) (cells-record 2 e (omega arith) (omega arith))
-      | no n₂ ↦ elim (ℕᴺ-discrete (x .kind) 3) [
-        | yes e ↦ simp (ne-eqb (x .kind) 1 n₁, ne-eqb (x .kind) 2 n₂, eq-eqb (x .kind) 3 e) (cells-record 3 e (omega arith) (omega arith))
-        | no n₃ ↦ elim (ℕᴺ-discrete (x .kind) 4) [
-          | yes e ↦ simp (ne-eqb (x .kind) 1 n₁, ne-eqb (x .kind) 2 n₂, ne-eqb (x .kind) 3 n₃, eq-eqb (x .kind) 4 e) (array-record 4 e (omega arith) (omega arith))
-          | no n₄ ↦ simp (ne-eqb (x .kind) 1 n₁, ne-eqb (x .kind) 2 n₂, ne-eqb (x .kind) 3 n₃, ne-eqb (x .kind) 4 n₄) (array-record 5 (omega arith) (omega arith) (omega arith))
-        ]
-      ]
-    ]
-  ]
+  action-again h k =
+      let w = action-side h k in
+      let same = by-kind x (h, k) (λ y. x .kind ≡ kind (y .verb)) (λ e. e) (λ e. e) (λ e. e) (λ e. e) (λ e. e) in
+      sym (fields-are x _ _ _ _ _ same (sym (side-again (x .side) (w .0))) refl (w .1) refl refl)
 
   -- "6 branch: P records of the first arm, then Q of the second. 7 loop: P records."
   pub nested-again : 6 ≤ x .kind → x .kind ≤ 7 → x ≡ fields (x .kind) 0 0 (first-arm x) (second-arm x)

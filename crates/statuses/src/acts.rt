@@ -4,7 +4,7 @@ ghost use mathlib.Core.Logic.{_⊎_};
 ghost use mathlib.Core.Bool.{true, false, not};
 ghost use Prim.Native.Nat.{_≤_, _<_};
 ghost use Rattle.model.proofs.Status.{Status};
-ghost use Rattle.format.specs.Plans.{side-of};
+ghost use Rattle.format.specs.Plans.{side-of, verb-of};
 ghost use Rattle.statuses.specs.Inner.Sets.{statuses, index, In, touched-met, touched-after};
 ghost use Rattle.statuses.specs.Inner.Ran.{Ran};
 use crate::sets::EMPTY;
@@ -52,7 +52,7 @@ pub struct Step {
 fn leaf(kind: u8, side: u8, w: usize) -> Step
     requires { ⌜ (1 ≤ kind) × (kind ≤ 5) × (side ≤ 1) × (w < statuses) ⌝ }
     ensures low { λ s. ⌜ s .after < statuses ⌝ }
-    ensures step { λ s. ⌜ ((u : Status) → index u ≡ w → (index (touched-after kind (side-of side) u) ≡ s .after) × (not (touched-met kind (side-of side) u) ≡ s .stops)) ⌝ }
+    ensures step { λ s. ⌜ ((u : Status) → index u ≡ w → (index (touched-after (verb-of kind) (side-of side) u) ≡ s .after) × (not (touched-met (verb-of kind) (side-of side) u) ≡ s .stops)) ⌝ }
 {
     let row = 2 * (kind as usize - 1) + side as usize;
     Step {
@@ -71,7 +71,7 @@ fn lowered(low: u16, stops: bool, k: u16) -> u16
 // Record k of this kind, 1 to 5, on this side, and each status of a cell that it covers.
 pub fn acted(t: Found, kind: u8, side: u8, k: u16) -> Found
     requires { ⌜ (1 ≤ kind) × (kind ≤ 5) × (side ≤ 1) × (k < 65535) ⌝ }
-    ensures { λ r. ⌜ Ran (λ u v. touched-after kind (side-of side) u ≡ v) (λ u n. (k ≡ n) × (touched-met kind (side-of side) u ≡ false)) (In (t .set)) (t .low) r ⌝ }
+    ensures { λ r. ⌜ Ran (λ u v. touched-after (verb-of kind) (side-of side) u ≡ v) (λ u n. (k ≡ n) × (touched-met (verb-of kind) (side-of side) u ≡ false)) (In (t .set)) (t .low) r ⌝ }
 {
     let mut set = EMPTY;
     let mut low = t.low;

@@ -72,7 +72,7 @@ module _ (f choices : List ℕ) (facts : Facts f) (kind : kind-of f ≡ 2) where
           writes = refl;
           moved = refl;
           counted = refl;
-          past = past {plan = plan-of f} {cs = choices-of choices} here;
+          past = past (plan-of f) {cs = choices-of choices} here;
           knows = rw (arrays-counted f) at (start-known (layout-of f) own others latest (λ c i. filled 0 h own on-host c i ∙ sym (filled 0 l latest on-latest c i)));
         };
         few = omega (arith, facts .bounds .records);

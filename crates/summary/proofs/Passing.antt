@@ -10,8 +10,9 @@ use native.Mathlib.Omega.{arith}
 use lib.Dec.{leb, ltb}
 use lib.ListN.{getD}
 use borrow.Author.Tests.{leb-true, leb-false, ltb-false}
-use Rattle.model.specs.Sides.{span-of}
+use Rattle.model.specs.Sides.{cell-count, span-of}
 use Rattle.model.specs.Blocks.{Block, done, act, branch, loop, _then_}
+use Rattle.model.proofs.Numbering.{array-ends}
 use Rattle.model.proofs.Through.{then-done}
 use Rattle.reading.specs.declared.Fields.{Fields}
 use Rattle.reading.specs.Bytes.{first-arm, second-arm, layout-of, record-count, fields-at}
@@ -21,6 +22,7 @@ use Rattle.format.proofs.Walking.{opened-facts}
 use Rattle.format.proofs.Trees.{block-none, block-branch, block-loop}
 use Rattle.format.proofs.Acts.{Here, here, after-act}
 use Rattle.lookahead.specs.Inner.Ahead.{cell-at, covers, Ahead}
+use Rattle.summary.proofs.Touched.{spares}
 use Rattle.summary.proofs.Skips.{Untouched}
 use Rattle.summary.proofs.Actions.{next-act, act-covers}
 
@@ -78,6 +80,9 @@ module _ (f : List ℕ) (bodies : ℕ) (w : Plain f bodies) (c array offset : �
     | inr p ↦ same n (k + 1) m (omega arith) h (omega (arith, p .0)) ∙ sym (p .0)
   ]
 
+  c-inside : c < cell-count (layout-of f)
+  c-inside = omega (arith, array-ends (layout-of f) array)
+
   -- a block that is passed by as a whole
   skipped-all : (r end : ℕ) → Skipped f c r end end → Untouched (layout-of f) c (block-between f r end)
   skipped-all r end t = subst (Untouched (layout-of f) c) (sym (then-done (t .passed)) ∙ (ap (λ b. t .passed then b) (sym (block-none f end end (omega arith))) ∙ t .joins)) (t .untouched)
@@ -89,7 +94,7 @@ module _ (f : List ℕ) (bodies : ℕ) (w : Plain f bodies) (c array offset : �
     skip-act : fields-at f r .kind < 6 → covers (fields-at f r) array offset ≡ false → Skipped f c (r + 1) m end → Skipped f c r m end
     skip-act k e t = record {
       passed = act r (action-of (fields-at f r)) (t .passed);
-      untouched = (rw is (act-covers (fields-at f r) (known .low, omega arith) f array offset inside) ∙ e, t .untouched);
+      untouched = (spares (layout-of f) c (action-of (fields-at f r)) c-inside (rw is (act-covers (fields-at f r) (known .low, omega arith) f array offset inside) ∙ e), t .untouched);
       joins = ap (act r (action-of (fields-at f r))) (t .joins) ∙ sym (next-act (fields-at f r) (known .low, omega arith) f r end h g refl);
       walk = t .walk;
       later = omega (arith, t .later);

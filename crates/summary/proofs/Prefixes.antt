@@ -12,7 +12,7 @@ use Rattle.model.proofs.Through.{then-done}
 use Rattle.model.proofs.Demand.Blocks.{then-assoc}
 use Rattle.reading.specs.declared.Fields.{Fields}
 use Rattle.reading.specs.Bytes.{layout-of, record-count, fields-at, first-arm, second-arm}
-use Rattle.format.specs.Plans.{side-of, action-of}
+use Rattle.format.specs.Plans.{side-of, verb-of, action-of}
 use Rattle.format.specs.Inner.Walks.{Walkable, block-between}
 use Rattle.format.proofs.Trees.{block-none, block-branch, block-loop}
 use Rattle.format.proofs.Acts.{Arms}
@@ -21,7 +21,7 @@ use Rattle.lookahead.specs.Inner.Ahead.{cell-at, covers}
 use Rattle.statuses.specs.Inner.Sets.{In, touched-met, touched-after}
 use Rattle.statuses.specs.Inner.Ran.{Ran}
 use Rattle.summary.specs.Inner.Ways.{Body, nest}
-use Rattle.summary.proofs.Actions.{act-kind, act-side, next-act, act-covers}
+use Rattle.summary.proofs.Actions.{next-act, act-covers}
 use Rattle.summary.proofs.Ways.{Found-in, ran-none, ran-then, ran-touched}
 use Rattle.summary.proofs.Skips.{ran-skip}
 use Rattle.summary.proofs.Passing.{Skipped}
@@ -61,10 +61,11 @@ module _ (f : List ℕ) (c from end : ℕ) (start : Found) where
 module _ (f : List ℕ) (c from end r : ℕ) (h : r < end) (g : Walkable f r end) (x : Fields) (e : x ≡ fields-at f r) (start t t′ : Found) (p : Prefix f c from r end start t) where
   -- it covers the cell
   pub step-act : (array offset : ℕ) → c ≡ cell-at f array offset → offset < span-of (layout-of f) array .length → (1 ≤ x .kind) × (x .kind ≤ 5) → covers x array offset ≡ true →
-      Ran (λ u v. touched-after (x .kind) (side-of (x .side)) u ≡ v) (λ u n. (r ≡ n) × (touched-met (x .kind) (side-of (x .side)) u ≡ false)) (In (t .set)) (t .low) t′ →
+      Ran (λ u v. touched-after (verb-of (x .kind)) (side-of (x .side)) u ≡ v) (λ u n. (r ≡ n) × (touched-met (verb-of (x .kind)) (side-of (x .side)) u ≡ false)) (In (t .set)) (t .low) t′ →
       Prefix f c from (r + 1) end start t′
+  unfolding action-of
   step-act array offset is inside k u m = prefix-more f c from end start t t′ r (r + 1) (act r (action-of x) done) p (next-act x k f r end h g e)
-      (ran-touched (layout-of f) c r (action-of x) t t′ (rw is (act-covers x k f array offset inside) ∙ u) (rw (act-kind x k, act-side x k) m))
+      (ran-touched (layout-of f) c r (action-of x) t t′ (rw is (act-covers x k f array offset inside) ∙ u) m)
 
   module _ (low : 6 ≤ x .kind) (high : x .kind ≤ 7) (i j : ℕ) (ei : i ≡ first-arm x) (ej : j ≡ second-arm x) where
     pub step-arms : Found-in (layout-of f) c (nest (x .kind) r (block-between f (r + 1) (r + 1 + i)) (block-between f (r + 1 + i) (r + 1 + i + j))) (In (t .set)) (t .low) t′ →

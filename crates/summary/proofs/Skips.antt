@@ -1,15 +1,15 @@
--- A block of which no record touches the cell leaves every status as it is, and stops nowhere: a walk may pass it by.
+-- A block of which each record spares the cell leaves every status as it is, and stops nowhere: a walk may pass it by.
 use Prim.Native.Nat.{ℕ}
 use mathlib.Core.Path.{_≡_, refl, sym, subst, _∙_}
 use mathlib.Core.Logic.{inl, inr}
-use mathlib.Core.Bool.{true, false, true≢false}
+use mathlib.Core.Bool.{true≢false}
 use Rattle.model.specs.Sides.{Layout}
 use Rattle.model.specs.Blocks.{Block, done, act, branch, loop}
 use Rattle.model.proofs.Status.{Status}
 use Rattle.model.proofs.Through.{Star, stay, more, Goes, Stops}
 use Rattle.statuses.specs.declared.acts.Found.{Found}
 use Rattle.statuses.specs.Inner.Sets.{In}
-use Rattle.summary.proofs.Touched.{touches, untouched-met-in, untouched-status-after}
+use Rattle.summary.proofs.Touched.{Spares}
 use Rattle.summary.proofs.Ways.{Found-in, ran-iff, ran-none}
 
 star-none : {R : Status → Status → Type 0} → ((u v : Status) → R u v → u ≡ v) → {u v : Status} → Star R u v → u ≡ v
@@ -19,25 +19,25 @@ star-none h {u} (more {w = w} r s) = h u w r ∙ star-none h s
 module _ (layout : Layout) (c : ℕ) where
   abbrev pub Untouched : Block → Type 0
   Untouched done = Unit {0}
-  Untouched (act k x b) = (touches layout c x ≡ false) × Untouched b
+  Untouched (act k x b) = Spares layout c x × Untouched b
   Untouched (branch k x y b) = Untouched x × Untouched y × Untouched b
   Untouched (loop k x b) = Untouched x × Untouched b
 
   skip-goes : (b : Block) → Untouched b → (u v : Status) → Goes layout c b u v → u ≡ v
   skip-goes done h u v g = g
-  skip-goes (act k x b) h u v g = sym (untouched-status-after layout c x (h .0) u) ∙ skip-goes b (h .1) _ v g
+  skip-goes (act k x b) h u v g = sym (h .0 u .1) ∙ skip-goes b (h .1) _ v g
   skip-goes (branch k x y b) h u v g = elim (g .1) [ inl p ↦ skip-goes x (h .0) u (g .0) p | inr p ↦ skip-goes y (h .1) u (g .0) p ] ∙ skip-goes b (h .2) (g .0) v (g .2)
   skip-goes (loop k x b) h u v g = star-none (skip-goes x (h .0)) (g .1) ∙ skip-goes b (h .1) (g .0) v (g .2)
 
   skip-stays : (b : Block) → Untouched b → (u : Status) → Goes layout c b u u
   skip-stays done h u = refl
-  skip-stays (act k x b) h u = subst (λ w. Goes layout c b w u) (sym (untouched-status-after layout c x (h .0) u)) (skip-stays b (h .1) u)
+  skip-stays (act k x b) h u = subst (λ w. Goes layout c b w u) (sym (h .0 u .1)) (skip-stays b (h .1) u)
   skip-stays (branch k x y b) h u = (u, inl (skip-stays x (h .0) u), skip-stays b (h .2) u)
   skip-stays (loop k x b) h u = (u, stay, skip-stays b (h .1) u)
 
   skip-stops : (b : Block) → Untouched b → (u : Status) (r : ℕ) → Stops layout c b u r → ⊥
   skip-stops done h u r s = s
-  skip-stops (act k x b) h u r (inl s) = true≢false (sym (untouched-met-in layout c x (h .0) u) ∙ s .1)
+  skip-stops (act k x b) h u r (inl s) = true≢false (sym (h .0 u .0) ∙ s .1)
   skip-stops (act k x b) h u r (inr s) = skip-stops b (h .1) _ r s
   skip-stops (branch k x y b) h u r (inl s) = elim s [ inl p ↦ skip-stops x (h .0) u r p | inr p ↦ skip-stops y (h .1) u r p ]
   skip-stops (branch k x y b) h u r (inr s) = skip-stops b (h .2) (s .0) r (s .2)

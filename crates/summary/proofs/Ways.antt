@@ -7,7 +7,7 @@ use native.Mathlib.Omega.{arith}
 use lib.Dec.{eqb}
 use borrow.Author.Tests.{eqb-true}
 use Rattle.model.specs.Sides.{Layout}
-use Rattle.model.specs.Effects.{Action}
+use Rattle.model.specs.Records.{Action, covers}
 use Rattle.model.specs.Blocks.{Block, done, act, branch, _then_}
 use Rattle.model.proofs.Status.{Status}
 use Rattle.model.proofs.Through.{Goes, Stops}
@@ -15,7 +15,7 @@ use Rattle.statuses.specs.declared.acts.Found.{Found}
 use Rattle.statuses.specs.Inner.Sets.{statuses, index, bit, In, Union, at-start, touched-met, touched-after}
 use Rattle.statuses.specs.Inner.Ran.{Ran}
 use Rattle.statuses.proofs.Statuses.{index-below, index-one, in-union}
-use Rattle.summary.proofs.Touched.{kind-of, on, touches, touched-met-in, touched-status-after}
+use Rattle.summary.proofs.Touched.{touched-met-in, touched-status-after}
 use Rattle.summary.proofs.Blocks.{goes-then, stops-then}
 
 module _ {G H : Status → Status → Type 0} {S T : Status → ℕ → Type 0} {from : Status → Type 0} {low : ℕ} {t : Found} where
@@ -114,8 +114,8 @@ module _ (layout : Layout) (c : ℕ) where
 
   -- one record
   module _ (k : ℕ) (x : Action) (t : Found) where
-    pub ran-touched : (t′ : Found) → touches layout c x ≡ true →
-        Ran (λ u v. touched-after (kind-of x) (on x) u ≡ v) (λ u n. (k ≡ n) × (touched-met (kind-of x) (on x) u ≡ false)) (In (t .set)) (t .low) t′ →
+    pub ran-touched : (t′ : Found) → covers layout x c ≡ true →
+        Ran (λ u v. touched-after (x .verb) (x .side) u ≡ v) (λ u n. (k ≡ n) × (touched-met (x .verb) (x .side) u ≡ false)) (In (t .set)) (t .low) t′ →
         Found-in (act k x done) (In (t .set)) (t .low) t′
     ran-touched t′ e = ran-iff
         (λ u v. (λ g. touched-status-after layout c x e u ∙ g, λ g. sym (touched-status-after layout c x e u) ∙ g))

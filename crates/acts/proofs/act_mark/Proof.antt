@@ -14,8 +14,8 @@ with-flag-requires : tie.Need-with-flag-requires
 with-flag-requires c κs = search needs
 
 returns : tie.Need-returns
-returns c = λ arrays from to hs cs latest k σ l h.
-    mark-card h _ _ _ (c .before .before .if1 .taken) (c .before .without-flag .ensures _ _ (k .one) (h .own-flags)) (c .with-flag .ensures _ _ (k .one) (h .others-flags)) refl refl refl refl
+returns c = λ layout x hs cs latest q one σ l h.
+    mark-card h _ x _ (c .before .before .if1 .taken) (rw q (c .before .without-flag .ensures _ _ one (h .own-flags))) (rw q (c .with-flag .ensures _ _ one (h .others-flags))) refl refl refl refl
 
 with-flag-requires-2 : tie.Need-with-flag-requires-2
 with-flag-requires-2 c κs = search needs
@@ -24,8 +24,8 @@ without-flag-requires-2 : tie.Need-without-flag-requires-2
 without-flag-requires-2 c κs = search needs
 
 returns-2 : tie.Need-returns-2
-returns-2 c = λ arrays from to hs cs latest k σ l h.
-    mark-host h _ _ _ (c .before .before .if1 .left) (c .before .with-flag2 .ensures _ _ (k .one) (h .own-flags)) (c .without-flag2 .ensures _ _ (k .one) (h .others-flags)) refl refl refl refl
+returns-2 c = λ layout x hs cs latest q one σ l h.
+    mark-host h _ x _ (c .before .before .if1 .left) (rw q (c .before .with-flag2 .ensures _ _ one (h .own-flags))) (rw q (c .without-flag2 .ensures _ _ one (h .others-flags))) refl refl refl refl
 
 pub act-mark-spec : {M : Type 1} → statement M
 act-mark-spec =

@@ -23,7 +23,7 @@ returns c =
     let p = and-out _ _ (c .if1 .taken) in
     let a = c .before .before .before .before .before .before in (
       λ n. absurd (true≢false (sym (p .0) ∙ n)),
-      (λ y arrays k σ l h. need-idle-on h (a .pre .0) k (a .args .on-card) (sym (c .before .flag-set .ensures _ _ (k .one) (c .before .before .side-flags .ensures ∙ flags-held h (a .args .on-card))) ∙ p .1), (same-all _ _, same-all _ _)),
+      (λ y layout x k σ l h. need-idle-on h (a .pre .0) (a .args .on-card) x k (sym (c .before .flag-set .ensures _ _ (rw (k .array) at (k .range .one)) (c .before .before .side-flags .ensures ∙ flags-held h (a .args .on-card))) ∙ p .1), (same-all _ _, same-all _ _)),
     )
 
 act-copy-requires : tie.Need-act-copy-requires
@@ -44,7 +44,7 @@ returns-2 c =
     let m = c .before .before .before .before .before .before .act-copy in (
       λ n. absurd (true≢false (sym (c .before .if2 .taken) ∙ n)),
       (
-        λ y arrays k σ l h. need-acts h (a .pre .0) k (a .args .on-card) (a .args .whole) (m .result) (c .with-both .result) (sym (c .before .before .before .before .before .before .before .before .before .before .flag-set .ensures _ _ (k .one) (c .before .before .before .before .before .before .before .before .before .before .before .side-flags .ensures ∙ flags-held h (a .args .on-card))) ∙ rw y at (c .before .before .before .before .before .before .before .before .before .if1 .left)) (m .ensures) (c .with-both .ensures),
+        λ y layout x k σ l h. need-acts h (a .pre .0) (a .args .on-card) x k (m .result) (c .with-both .result) (sym (c .before .before .before .before .before .before .before .before .before .before .flag-set .ensures _ _ (rw (k .array) at (k .range .one)) (c .before .before .before .before .before .before .before .before .before .before .before .side-flags .ensures ∙ flags-held h (a .args .on-card))) ∙ rw y at (c .before .before .before .before .before .before .before .before .before .if1 .left)) (m .ensures) (c .with-both .ensures),
         moves-same (a .args .on-card) _ _ _ _ _ _ _ _ (m .result) _ _ (m .ensures),
       ),
     )
@@ -59,7 +59,7 @@ returns-3 : tie.Need-returns-3
 returns-3 c =
     let a = c .before .before .before .before .before .before .before .before .before .before .before .before .before .before in
     let m = c .before .before .before .before .before .act-copy in
-    (λ n arrays x k σ l h. copy-acts h (a .pre .0) k (a .args .on-card) (m .result) (m .ensures), (λ y. absurd (true≢false (sym y ∙ c .if2 .left)), moves-same (a .args .on-card) _ _ _ _ _ _ _ _ (m .result) _ _ (m .ensures)))
+    (λ n layout x k σ l h. copy-acts h (a .pre .0) (a .args .on-card) x k (m .result) (m .ensures), (λ y. absurd (true≢false (sym y ∙ c .if2 .left)), moves-same (a .args .on-card) _ _ _ _ _ _ _ _ (m .result) _ _ (m .ensures)))
 
 pub act-move-spec : {M : Type 1} → statement M
 act-move-spec =

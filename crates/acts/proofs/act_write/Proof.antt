@@ -34,7 +34,7 @@ returns c =
     let f = c .before .before .before .before .before .before .before .before .before .fill-on .ensures in
     let g = c .before .before .before .fill .ensures in
     let p = changed-on-same (a .args .on-card) f in
-    (λ arrays x k σ l h. write-done-on h (a .pre .0) k (a .args .on-card) _ (c .known-written .ensures) f g, (p .0, p .1, changed-same g))
+    (λ layout x k σ l h. write-done-on h (a .pre .0) (a .args .on-card) x k _ (c .known-written .ensures) f g, (p .0, p .1, changed-same g))
 
 pub act-write-spec : {M : Type 1} → statement M
 act-write-spec =

@@ -6,8 +6,9 @@ use mathlib.Core.List.{List, _∷_}
 use mathlib.Core.Option.{none, some}
 use lib.Dec.{eqb}
 use lib.ListN.{length, getD}
-use Rattle.model.specs.Sides.{Side, host, card, other, Layout, cell-count, span-of, Cells}
-use Rattle.model.specs.Effects.{Action, read, write, copy, need, mark, State, effect}
+use Rattle.model.specs.Sides.{Side, host, card, other, Layout, cell-count, span-of}
+use Rattle.model.specs.Records.{Verb, Action, covers, cover-count}
+use Rattle.model.specs.Effects.{State, effect}
 use Rattle.model.specs.Runs.{Event, lowest-unmet, tally}
 use Rattle.model.proofs.Runs.{event}
 use Rattle.model.proofs.Stamps.{Past}
@@ -16,7 +17,7 @@ use Rattle.acts.specs.declared.Acted.{Acted}
 use Rattle.acts.specs.declared.Acted.the-variants.{Done, Unmet}
 use Rattle.memories.specs.Memories.{number-of}
 use Rattle.memories.specs.Flags.{mask}
-use Rattle.memories.specs.Inner.Ranges.{Room, FirstStale, Changed, of-side}
+use Rattle.memories.specs.Inner.Ranges.{Room, among, FirstStale, Changed, of-side}
 use Rattle.known.specs.Inner.Knowing.{Knows, Copied}
 
 -- the cells `from` up to `to` lie inside three memories, and they are no more than a plan has
@@ -32,12 +33,16 @@ pub record Low (s : Stored) : Type 0 where
   pub writes : s .writes < 4294967296
   pub moved : s .moved < 17592186044416
 
--- the cells of a range are those from `from` up to `to`
-pub record CellsAt (layout : Layout) (x : Cells) (from to : ℕ) : Type 0 where
-  pub one : x .array < length (layout .lengths)
-  pub begins : from ≡ span-of layout (x .array) .first + x .p
-  pub ends : to ≡ span-of layout (x .array) .first + x .q
-  pub fits : x .q ≤ span-of layout (x .array) .length
+-- a record with this verb on this side, of the cells that x names
+abbrev pub with-verb : Verb → Side → Action → Action
+with-verb v s x = record { verb = v; side = s; name = x .name; p = x .p; q = x .q }
+
+-- the cells that a record covers are those from `from` up to `to`
+pub record CellsAt (layout : Layout) (x : Action) (from to : ℕ) : Type 0 where
+  pub one : x .name < length (layout .lengths)
+  pub cells : (c : ℕ) → covers layout x c ≡ among from to c
+  pub ends : to ≤ cell-count layout
+  pub count : cover-count layout x ≡ to - from
 
 -- those of an array
 pub record ArrayAt (layout : Layout) (a from to : ℕ) : Type 0 where
@@ -45,30 +50,22 @@ pub record ArrayAt (layout : Layout) (a from to : ℕ) : Type 0 where
   pub begins : from ≡ span-of layout a .first
   pub ends : to ≡ span-of layout a .first + span-of layout a .length
 
--- where those of a range of array a are the whole of it, they are those of the array
-pub record CellsOf (layout : Layout) (x : Cells) (a : ℕ) (whole : Bool) (from to : ℕ) : Type 0 where
+-- a record of array a; where it covers the whole of it, its cells are those of the array
+pub record CellsOf (layout : Layout) (x : Action) (a : ℕ) (whole : Bool) (from to : ℕ) : Type 0 where
   pub range : CellsAt layout x from to
-  pub array : x .array ≡ a
+  pub array : x .name ≡ a
   pub all : whole ≡ true → ArrayAt layout a from to
-
--- the cells of a record are those from `from` up to `to`
-abbrev pub Spans : Layout → Action → ℕ → ℕ → Type 0
-Spans layout (read s x) from to = CellsAt layout x from to
-Spans layout (write s x) from to = CellsAt layout x from to
-Spans layout (copy s x) from to = CellsAt layout x from to
-Spans layout (need s a) from to = ArrayAt layout a from to
-Spans layout (mark s a) from to = ArrayAt layout a from to
 
 -- the memories, flags and tally, seen from side t, hold the state σ after the history l
 pub record Holds (layout : Layout) (t : Side) (s : Stored) (own others latest : List ℕ) (σ : State) (l : List Event) : Type 0 where
   pub own-room : cell-count layout ≤ length own
   pub others-room : cell-count layout ≤ length others
   pub latest-room : cell-count layout ≤ length latest
-  pub own-held : (c : ℕ) → c < cell-count layout → getD own c 0 ≡ number-of (σ .held t c)
-  pub others-held : (c : ℕ) → c < cell-count layout → getD others c 0 ≡ number-of (σ .held (other t) c)
-  pub latest-held : (c : ℕ) → c < cell-count layout → getD latest c 0 ≡ σ .latest c
-  pub own-flags : s .flags ≡ mask (length (layout .lengths)) (σ .flag t)
-  pub others-flags : s .«other_flags» ≡ mask (length (layout .lengths)) (σ .flag (other t))
+  pub own-held : (c : ℕ) → c < cell-count layout → getD own c 0 ≡ number-of (σ .cell c .held t)
+  pub others-held : (c : ℕ) → c < cell-count layout → getD others c 0 ≡ number-of (σ .cell c .held (other t))
+  pub latest-held : (c : ℕ) → c < cell-count layout → getD latest c 0 ≡ σ .cell c .latest
+  pub own-flags : s .flags ≡ mask (length (layout .lengths)) (λ a. σ .flags a .flag t)
+  pub others-flags : s .«other_flags» ≡ mask (length (layout .lengths)) (λ a. σ .flags a .flag (other t))
   pub reads : s .reads ≡ tally layout l .reads
   pub writes : s .writes ≡ tally layout l .writes
   pub moved : s .moved ≡ tally layout l .moved

@@ -9,7 +9,7 @@ use lib.ListN.{length, length-append, length-map}
 use lib.Dec.{ltb, leb, eqb}
 use borrow.Author.Tests.{lt-ltb, le-ltb, ne-eqb}
 use Rattle.model.specs.Lists.{sum}
-use Rattle.model.specs.Sides.{Side, Layout}
+use Rattle.model.specs.Sides.{Side, side-number, Layout}
 use Rattle.model.specs.Blocks.{size, numbered}
 use Rattle.model.specs.Judging.{Mode, R, W, RW, Declaration, Pass}
 use Rattle.model.proofs.Booleans.{and-out}
@@ -18,7 +18,7 @@ use Rattle.reading.specs.Bytes.{kind-of, array-count, table, records-in, declar
 use Rattle.rules.specs.Rules.{fields-fit, allowed, deepest}
 use Rattle.records.specs.Records.{records-rows}
 use Rattle.format.specs.Plans.{declaration-of, pass-at}
-use Rattle.files.specs.Files.{side-number, fields, mode-kind, declaration-fields, block-fields, pass-body}
+use Rattle.files.specs.Files.{fields, mode-kind, declaration-fields, block-fields, pass-body}
 use Rattle.files.specs.Bounds.{all, block-fits, pass-fits, pass-size, passes-size, numbered-passes}
 use Rattle.files.proofs.Files.Holding.{Along, none, more, Holds, front-part, back-at, each-so, along-unmap, from-place, table-is}
 use Rattle.files.proofs.Files.Places.{body-size, sizes, Arrayed, Placed}

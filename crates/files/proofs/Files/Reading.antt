@@ -7,13 +7,13 @@ use native.Mathlib.Numerals.{add-one}
 use native.Mathlib.Nat.{add-zero}
 use lib.Dec.{eqb}
 use borrow.Author.Tests.{lt-ltb, le-ltb}
-use Rattle.model.specs.Sides.{Side, host, card}
-use Rattle.model.specs.Effects.{Action, read, write, copy, need, mark}
+use Rattle.model.specs.Sides.{Side, host, card, side-number}
+use Rattle.model.specs.Records.{Verb, read, write, copy, need, mark, kind, Action}
 use Rattle.model.specs.Blocks.{Block, size, numbered}
 use Rattle.reading.specs.declared.Fields.{Fields}
 use Rattle.reading.specs.Bytes.{first-arm, second-arm}
-use Rattle.format.specs.Plans.{side-of, action-of, block-of}
-use Rattle.files.specs.Files.{side-number, fields, action-fields, block-fields}
+use Rattle.format.specs.Plans.{side-of, verb-of, action-of, block-of}
+use Rattle.files.specs.Files.{fields, action-fields, block-fields}
 use Rattle.files.proofs.Files.Holding.{more, Holds, front-part, back-at}
 use Rattle.files.proofs.Files.Records.{no-arms, fields-count}
 
@@ -21,21 +21,24 @@ pub side-back : (s : Side) → side-of (side-number s) ≡ s
 side-back host = refl
 side-back card = refl
 
+verb-back : (v : Verb) → verb-of (kind v) ≡ v
+verb-back read = refl
+verb-back write = refl
+verb-back copy = refl
+verb-back need = refl
+verb-back mark = refl
+
 action-back : (x : Action) → action-of (action-fields x) ≡ x
 unfolding action-of
-action-back (read s x) = rw (side-back s)
-action-back (write s x) = rw (side-back s)
-action-back (copy s x) = rw (side-back s)
-action-back (need s a) = rw (side-back s)
-action-back (mark s a) = rw (side-back s)
+action-back x = rw (verb-back (x .verb), side-back (x .side))
 
 -- an action is neither a branch nor a loop
-no-holder : (x : Action) → (eqb (action-fields x .kind) 6 ≡ false) × (eqb (action-fields x .kind) 7 ≡ false)
-no-holder (read s x) = (refl, refl)
-no-holder (write s x) = (refl, refl)
-no-holder (copy s x) = (refl, refl)
-no-holder (need s a) = (refl, refl)
-no-holder (mark s a) = (refl, refl)
+no-holder : (v : Verb) → (eqb (kind v) 6 ≡ false) × (eqb (kind v) 7 ≡ false)
+no-holder read = (refl, refl)
+no-holder write = (refl, refl)
+no-holder copy = (refl, refl)
+no-holder need = (refl, refl)
+no-holder mark = (refl, refl)
 
 module _ (g : ℕ → Fields) where
   reads-none : (fuel r end : ℕ) → end ≤ r → block-of fuel g r end ≡ Block.done
@@ -48,7 +51,7 @@ module _ (g : ℕ → Fields) where
     unfolding block-of
     reads-act x e =
         let next : suc r + 0 + 0 ≡ suc r = omega arith in
-        rw (lt-ltb r end h, e, no-holder x .0, no-holder x .1, no-arms x .0, no-arms x .1, add-one r, next, action-back x)
+        rw (lt-ltb r end h, e, no-holder (x .verb) .0, no-holder (x .verb) .1, no-arms x .0, no-arms x .1, add-one r, next, action-back x)
 
     reads-branch : (n m : ℕ) → g r ≡ fields 6 0 0 n m
         → block-of (suc fuel) g r end ≡ Block.branch r (block-of fuel g (suc r) (suc r + n)) (block-of fuel g (suc r + n) (suc r + n + m)) (block-of fuel g (suc r + n + m) end)

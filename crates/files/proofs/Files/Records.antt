@@ -1,23 +1,24 @@
 -- The rows of records pass where the records are those of a block within the bounds.
 use mathlib.Core.Path.{_≡_, refl}
-use mathlib.Core.Bool.{Bool, true, false, _&&_, false≢true}
+use mathlib.Core.Bool.{true, false, _&&_, false≢true}
 use mathlib.Core.List.{List, _++_}
 use Prim.Native.Nat.{ℕ, zero, suc, _+_, _≤_, _<_}
 use native.Mathlib.Omega.{arith}
 use native.Mathlib.Numerals.{add-one}
 use native.Mathlib.Nat.{add-zero}
 use lib.ListN.{length, length-append}
-use lib.Dec.{ltb, leb}
+use lib.Dec.{ltb, leb, eqb}
 use borrow.Author.Tests.{lt-ltb, le-ltb, ltb-true}
-use Rattle.model.specs.Sides.{Side, host, card, Cells, span-of, Layout}
-use Rattle.model.specs.Effects.{Action, read, write, copy, need, mark}
+use Rattle.model.specs.Sides.{Side, host, card, side-number, span-of, Layout}
+use Rattle.model.specs.Records.{Verb, read, write, copy, need, mark, kind, Action}
 use Rattle.model.specs.Blocks.{Block, size}
 use Rattle.model.proofs.Booleans.{and-out}
+use Rattle.model.proofs.Stamps.{as-verb}
 use Rattle.reading.specs.declared.Fields.{Fields}
 use Rattle.reading.specs.Bytes.{array-count, length-at, fields-at, between, first-arm, second-arm}
 use Rattle.rules.specs.Rules.{fields-fit, allowed, deepest, record-rows}
 use Rattle.records.specs.Records.{block-rows}
-use Rattle.files.specs.Files.{side-number, fields, action-fields, block-fields}
+use Rattle.files.specs.Files.{fields, action-fields, block-fields}
 use Rattle.files.specs.Bounds.{cells-fit, action-fits, block-fits}
 use Rattle.files.proofs.Files.Holding.{more, Holds, front-part, back-at}
 use Rattle.files.proofs.Files.Places.{Arrayed, array-length}
@@ -78,20 +79,23 @@ side-fits host = refl
 side-fits card = refl
 
 -- the records of actions
-action-kind : (x : Action) → (between 1 7 (action-fields x .kind) ≡ true) × (between 6 7 (action-fields x .kind) ≡ false)
-action-kind (read s x) = (refl, refl)
-action-kind (write s x) = (refl, refl)
-action-kind (copy s x) = (refl, refl)
-action-kind (need s a) = (refl, refl)
-action-kind (mark s a) = (refl, refl)
+action-kind : (v : Verb) → (between 1 7 (kind v) ≡ true) × (between 6 7 (kind v) ≡ false)
+action-kind read = (refl, refl)
+action-kind write = (refl, refl)
+action-kind copy = (refl, refl)
+action-kind need = (refl, refl)
+action-kind mark = (refl, refl)
 
 pub no-arms : (x : Action) → (first-arm (action-fields x) ≡ 0) × (second-arm (action-fields x) ≡ 0)
 unfolding first-arm second-arm
-no-arms (read s x) = (refl, refl)
-no-arms (write s x) = (refl, refl)
-no-arms (copy s x) = (refl, refl)
-no-arms (need s a) = (refl, refl)
-no-arms (mark s a) = (refl, refl)
+no-arms x = go (x .verb)
+  where
+    go : (v : Verb) → (first-arm (action-fields (as-verb v x)) ≡ 0) × (second-arm (action-fields (as-verb v x)) ≡ 0)
+    go read = (refl, refl)
+    go write = (refl, refl)
+    go copy = (refl, refl)
+    go need = (refl, refl)
+    go mark = (refl, refl)
 
 -- a block's records are as many as its size
 pub fields-count : (x : Block) → length (block-fields x) ≡ size x
@@ -104,29 +108,37 @@ fields-count (Block.loop r x b) = omega (arith, fields-count x, fields-count b, 
 -- where the arrays are these, and the records from `low` on may be of the kinds 1 to 7
 module _ (f : List ℕ) (b low : ℕ) (layout : Layout) (arrayed : Arrayed f layout)
     (may : (r : ℕ) (x : Fields) → low ≤ r → between 1 7 (x .kind) ≡ true → allowed f b r x ≡ true) where
-  abbrev ranged : Side → Cells → Bool
-  ranged s x = ltb (side-number s) 2 && ltb (x .array) (array-count f) && true && ltb (x .p) (x .q) && leb (x .q) (length-at f (x .array))
-
-  ranged-fit : (s : Side) (x : Cells) → cells-fit layout x ≡ true → ranged s x ≡ true
-  ranged-fit s x e =
-      let h = and-out (ltb (x .array) (length (layout .lengths))) (ltb (x .p) (x .q) && leb (x .q) (span-of layout (x .array) .length)) e in
-      let k = and-out (ltb (x .p) (x .q)) (leb (x .q) (span-of layout (x .array) .length)) (h .1) in
-      rw (side-fits s, arrayed .counted, h .0, k .0, array-length f layout arrayed (x .array) (ltb-true _ _ (h .0)), k .1)
-
   action-fit : (x : Action) → action-fits layout x ≡ true → fields-fit f (action-fields x) ≡ true
   unfolding fields-fit
-  action-fit (read s x) e = ranged-fit s x e
-  action-fit (write s x) e = ranged-fit s x e
-  action-fit (copy s x) e = ranged-fit s x e
-  action-fit (need s a) e = rw (side-fits s, arrayed .counted, e)
-  action-fit (mark s a) e = rw (side-fits s, arrayed .counted, e)
+  action-fit x e = go (x .verb) (h .1)
+    where
+      h : (ltb (x .name) (length (layout .lengths)) ≡ true) × (cells-fit layout x ≡ true)
+      h = and-out (ltb (x .name) (length (layout .lengths))) (cells-fit layout x) e
+
+      ranged : (ltb (x .p) (x .q) && leb (x .q) (span-of layout (x .name) .length)) ≡ true →
+          (ltb (side-number (x .side)) 2 && ltb (x .name) (array-count f) && true && ltb (x .p) (x .q) && leb (x .q) (length-at f (x .name))) ≡ true
+      ranged u =
+          let k = and-out (ltb (x .p) (x .q)) (leb (x .q) (span-of layout (x .name) .length)) u in
+          rw (side-fits (x .side), arrayed .counted, h .0, k .0, array-length f layout arrayed (x .name) (ltb-true _ _ (h .0)), k .1)
+
+      unused : (eqb (x .p) 0 && eqb (x .q) 0) ≡ true →
+          (ltb (side-number (x .side)) 2 && ltb (x .name) (array-count f) && true && eqb (x .p) 0 && eqb (x .q) 0) ≡ true
+      unused u = let k = and-out (eqb (x .p) 0) (eqb (x .q) 0) u in rw (side-fits (x .side), arrayed .counted, h .0, k .0, k .1)
+
+      go : (v : Verb) → cells-fit layout (as-verb v x) ≡ true → fields-fit f (action-fields (as-verb v x)) ≡ true
+      go read u = ranged u
+      go write u = ranged u
+      go copy u = ranged u
+      go need u = unused u
+      go mark u = unused u
 
   pub block-walks : (x : Block) (levels depth r : ℕ) → block-fits layout levels x ≡ true → depth + levels ≤ deepest f + 1 → low ≤ r → Holds (fields-at f) r (block-fields x) → Walks f b depth r (r + size x)
   block-walks Block.done levels depth r e d l h = at-end f b depth r (r + 0) (omega arith)
   block-walks (Block.act _ x t) levels depth r e d l (more x-is h) =
       let fit = and-out (action-fits layout x) (block-fits layout levels t) e in
+      let kinds = action-kind (x .verb) in
       let next : suc r + size t ≡ r + suc (size t) = omega arith in
-      at-plain f b depth r (r + suc (size t)) (action-fields x) x-is (action-fit x (fit .0)) (may r (action-fields x) l (action-kind x .0)) (no-arms x .0) (no-arms x .1) (action-kind x .1) (omega arith)
+      at-plain f b depth r (r + suc (size t)) (action-fields x) x-is (action-fit x (fit .0)) (may r (action-fields x) l (kinds .0)) (no-arms x .0) (no-arms x .1) (kinds .1) (omega arith)
       (rw next at (block-walks t levels depth (suc r) (fit .1) d (omega arith) h))
   block-walks (Block.branch _ x y t) zero depth r e d l h = absurd (false≢true e)
   block-walks (Block.branch _ x y t) (suc levels) depth r e d l (more x-is h) =

@@ -8,7 +8,7 @@ use native.Nat.{ℕᴺ-discrete}
 use native.Mathlib.Decide.{decLt}
 use native.Mathlib.Omega.{arith}
 use borrow.Author.Tests.{ne-eqb}
-use Rattle.model.specs.Effects.{Action}
+use Rattle.model.specs.Records.{Action}
 use Rattle.model.specs.Judging.{every}
 use Rattle.model.proofs.Booleans.{and-out, and-in}
 use Rattle.reading.specs.declared.Fields.{Fields}

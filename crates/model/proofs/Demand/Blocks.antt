@@ -5,7 +5,7 @@ use mathlib.Core.Logic.{_⊎_, inl, inr}
 use mathlib.Core.List.{List, [], _∷_}
 use mathlib.Core.Bool.{Bool, true, false, cond, _&&_, _||_, and-assoc, or-assoc}
 use Rattle.model.specs.Sides.{Side, Layout}
-use Rattle.model.specs.Effects.{Action}
+use Rattle.model.specs.Records.{Action}
 use Rattle.model.specs.Blocks.{Block, act, branch, loop, _then_}
 use Rattle.model.specs.Judging.{Mode, R, W, RW, Declaration, Pass, Body0, pass-of, every, always-writes}
 use Rattle.model.specs.Expanding.{given, declared, expand}

@@ -4,20 +4,23 @@ use Prim.Native.Nat.{ℕ, suc, _<_}
 use mathlib.Core.Path.{_≡_, refl, sym, _∙_}
 use mathlib.Core.Logic.{_⊎_, inl, inr}
 use mathlib.Core.List.{List, [], _∷_}
-use mathlib.Core.Bool.{Bool, true, false, cond, and-true, and-false, true≢false, false≢true}
+use mathlib.Core.Bool.{Bool, true, false, cond, and-false, true≢false, false≢true}
 use lib.Dec.{eqb}
 use borrow.Author.Tests.{eqb-true, eq-eqb}
 use Rattle.model.specs.Lists.{any}
-use Rattle.model.specs.Sides.{Side, host, card, other, is, Stamp, at, Layout, cell-count, Cells, within}
-use Rattle.model.specs.Effects.{Action, read, write, copy, need, mark, State, start, effect}
+use Rattle.model.specs.Sides.{Side, host, card, other, same-side, Stamp, at, Layout, cell-count}
+use Rattle.model.specs.Records.{Verb, read, write, copy, need, mark, Action, whole-of, covers}
+use Rattle.model.specs.Effects.{Stamps, Flags, State, start, Deed, nothing, comes-to, does, effect}
 use Rattle.model.specs.Blocks.{Block, act}
 use Rattle.model.specs.Judging.{Mode, R, W, RW, reads, writes, Declaration, Pass, DeclaredPlan, pass-of, declares, permits, always-writes, Accepts}
 use Rattle.model.specs.Inner.Holders.{array-of}
-use Rattle.model.proofs.Numbering.{own-span, in-own, within-array}
-use Rattle.model.proofs.Booleans.{eqb-swap, is-same, is-true, is-other, same-or-other}
+use Rattle.model.proofs.Needs.{flag-set, flag-clear}
+use Rattle.model.proofs.Numbering.{own-span, in-own, covers-array, covers-whole}
+use Rattle.model.proofs.Booleans.{false-of, eqb-swap, is-same, is-true, is-other, same-or-other}
+use Rattle.model.proofs.Stamps.{as-verb}
 use Rattle.model.proofs.Written.{always-written}
 use Rattle.model.proofs.Demand.Blocks.{always-branch, always-loop}
-use Rattle.model.proofs.Demand.Declarations.{is-of, declares-any, once-first}
+use Rattle.model.proofs.Demand.Declarations.{is-of, declares-any, barred, once-first}
 use Rattle.model.proofs.Demand.Stages.{declaration, Stage, pass-at, ahead, body-left, Progress, Stages, begins, calls, enters, needs, marks, needs-first, marks-then, acts, branches, loops, branches0, loops0, Judged, judged, permitted-now}
 
 -- the copies and the latest stamp of one cell, and the flags of its array
@@ -67,7 +70,7 @@ opposite s v k (t, g) e = go (same-or-other s t)
 
 -- a need of the array that copies
 abbrev after-need : Side → CellState → CellState
-after-need s v = record { held = λ t. cond (is t s) (v .held (other s)) (v .held t); latest = v .latest; flag = λ t. true }
+after-need s v = record { held = λ t. cond (same-side t s) (v .held (other s)) (v .held t); latest = v .latest; flag = λ t. true }
 
 need-current : (s : Side) (v : CellState) → Current v (other s) → FlagsCurrent (after-need s v)
 need-current s v e t f = go (same-or-other s t)
@@ -78,7 +81,7 @@ need-current s v e t f = go (same-or-other s t)
 
 -- a write that covers the cell
 abbrev after-write : Side → ℕ → CellState → CellState
-after-write s k v = record { held = λ t. cond (is t s) (at k) (v .held t); latest = k; flag = v .flag }
+after-write s k v = record { held = λ t. cond (same-side t s) (at k) (v .held t); latest = k; flag = v .flag }
 
 write-coherent : {ds : List Declaration} {a : ℕ} {f g : Side → Bool} {v : CellState} (s : Side) (k : ℕ) →
     declares writes s a ds ≡ true → Coherent ds a f false v → Coherent ds a g false (after-write s k v)
@@ -108,7 +111,7 @@ module _ (layout : Layout) (c : ℕ) where
   own = array-of layout c
 
   abbrev pub at-cell : State → CellState
-  at-cell σ = record { held = λ t. σ .held t c; latest = σ .latest c; flag = λ t. σ .flag t own }
+  at-cell σ = record { held = λ t. σ .cell c .held t; latest = σ .cell c .latest; flag = λ t. σ .flags own .flag t }
 
   pub own-or-other : (a : ℕ) → (array-of layout c ≡ a) ⊎ (eqb (array-of layout c) a ≡ false)
   own-or-other a = go (eqb own a) refl
@@ -117,28 +120,68 @@ module _ (layout : Layout) (c : ℕ) where
       go true e = inl (eqb-true own a e)
       go false e = inr e
 
-  write-own : (s : Side) (x : Cells) (σ : State) → within layout x c ≡ true →
-      at-cell (effect layout (write s x) σ) ≡ after-write s (suc (σ .writes)) (at-cell σ)
-  write-own s x σ e = simp (e, and-true)
+  -- a cell that is as it was, whatever the tests say
+  unmoved : (b z : Bool) (u : Stamps) (f : Flags) →
+      _≡_ {A = CellState} (record { held = cond b u u .held; latest = cond b u u .latest; flag = cond z f f .flag }) (record { held = u .held; latest = u .latest; flag = f .flag })
+  unmoved true true u f = refl
+  unmoved true false u f = refl
+  unmoved false true u f = refl
+  unmoved false false u f = refl
 
-  write-other : (s : Side) (x : Cells) (σ : State) → within layout x c ≡ false → at-cell (effect layout (write s x) σ) ≡ at-cell σ
-  write-other s x σ e = simp (e, and-false)
+  -- a record of another array
+  pub not-covered : (x : Action) → eqb own (x .name) ≡ false → covers layout x c ≡ false
+  not-covered x q = false-of (covers layout x c) λ e. true≢false (sym (eq-eqb own (x .name) (covers-array layout x c e)) ∙ q)
 
-  need-set : (s : Side) (a : ℕ) (σ : State) → σ .flag s a ≡ true → at-cell (effect layout (need s a) σ) ≡ at-cell σ
-  need-set s a σ e = simp e
+  other-same : (x : Action) (σ : State) → eqb own (x .name) ≡ false → at-cell (effect layout x σ) ≡ at-cell σ
+  other-same x σ q = rw (not-covered x q, q)
 
-  need-own : c < cell-count layout → (s : Side) (a : ℕ) (σ : State) → own ≡ a → σ .flag s a ≡ false → at-cell (effect layout (need s a) σ) ≡ after-need s (at-cell σ)
-  need-own i s a σ q e = simp (e, in-own layout c i a, eq-eqb own a q, and-true)
+  read-same : (x : Action) (σ : State) → at-cell (effect layout (as-verb read x) σ) ≡ at-cell σ
+  read-same x σ = unmoved (covers layout (as-verb read x) c) (eqb own (x .name)) (σ .cell c) (σ .flags own)
 
-  need-other : c < cell-count layout → (s : Side) (a : ℕ) (σ : State) → eqb own a ≡ false → at-cell (effect layout (need s a) σ) ≡ at-cell σ
-  need-other i s a σ q = go (σ .flag s a) refl
+  write-own : (x : Action) (σ : State) → covers layout (as-verb write x) c ≡ true →
+      at-cell (effect layout (as-verb write x) σ) ≡ after-write (x .side) (suc (σ .writes)) (at-cell σ)
+  write-own x σ e = rw e (go (eqb own (x .name)))
     where
-      go : (b : Bool) → σ .flag s a ≡ b → at-cell (effect layout (need s a) σ) ≡ at-cell σ
-      go true e = simp e
-      go false e = simp (e, in-own layout c i a, q, and-false)
+      go : (z : Bool) → _≡_ {A = CellState}
+          (record { held = λ t. cond (same-side t (x .side)) (at (suc (σ .writes))) (σ .cell c .held t); latest = suc (σ .writes); flag = cond z (σ .flags own) (σ .flags own) .flag })
+          (after-write (x .side) (suc (σ .writes)) (at-cell σ))
+      go true = refl
+      go false = refl
 
-  mark-other : (s : Side) (a : ℕ) (σ : State) → eqb own a ≡ false → at-cell (effect layout (mark s a) σ) ≡ at-cell σ
-  mark-other s a σ q = simp q
+  write-other : (x : Action) (σ : State) → covers layout (as-verb write x) c ≡ false → at-cell (effect layout (as-verb write x) σ) ≡ at-cell σ
+  write-other x σ e = rw e (unmoved false (eqb own (x .name)) (σ .cell c) (σ .flags own))
+
+  -- a cell after a record, by what the tests say and what the record comes to
+  at-effect : (x : Action) (σ : State) (b z : Bool) (r q : Deed × Flags) → covers layout x c ≡ b → eqb own (x .name) ≡ z →
+      comes-to (x .verb) (x .side) (σ .flags (x .name)) ≡ r → comes-to (x .verb) (x .side) (σ .flags own) ≡ q →
+      _≡_ {A = CellState} (at-cell (effect layout x σ)) (record {
+        held = cond b (does (suc (σ .writes)) (r .0) (σ .cell c)) (σ .cell c) .held;
+        latest = cond b (does (suc (σ .writes)) (r .0) (σ .cell c)) (σ .cell c) .latest;
+        flag = cond z (q .1) (σ .flags own) .flag;
+      })
+  at-effect x σ b z r q e f g h = λ i. record {
+    held = cond (e i) (does (suc (σ .writes)) (g i .0) (σ .cell c)) (σ .cell c) .held;
+    latest = cond (e i) (does (suc (σ .writes)) (g i .0) (σ .cell c)) (σ .cell c) .latest;
+    flag = cond (f i) (h i .1) (σ .flags own) .flag;
+  }
+
+  need-set : (s : Side) (a : ℕ) (σ : State) → σ .flags a .flag s ≡ true → own ≡ a → at-cell (effect layout (whole-of need s a) σ) ≡ at-cell σ
+  need-set s a σ e q =
+      at-effect (whole-of need s a) σ (covers layout (whole-of need s a) c) (eqb own a) (nothing, σ .flags a) (nothing, σ .flags own) refl refl
+      (flag-set s (σ .flags a) e) (flag-set s (σ .flags own) (rw q e))
+      ∙ unmoved (covers layout (whole-of need s a) c) (eqb own a) (σ .cell c) (σ .flags own)
+
+  need-own : c < cell-count layout → (s : Side) (a : ℕ) (σ : State) → own ≡ a → σ .flags a .flag s ≡ false → at-cell (effect layout (whole-of need s a) σ) ≡ after-need s (at-cell σ)
+  need-own i s a σ q e =
+      at-effect (whole-of need s a) σ true true _ _ (covers-whole layout (whole-of need s a) c refl ∙ (in-own layout c i a ∙ eq-eqb own a q)) (eq-eqb own a q)
+      (flag-clear s (σ .flags a) e) (flag-clear s (σ .flags own) (rw q e))
+
+  marked : (s : Side) (a : ℕ) (σ : State) (t : Side) → Current (at-cell σ) t → Current (at-cell (effect layout (whole-of mark s a) σ)) t
+  marked s a σ t e = go (covers layout (whole-of mark s a) c)
+    where
+      go : (b : Bool) → cond b (σ .cell c) (σ .cell c) .held t ≡ at (cond b (σ .cell c) (σ .cell c) .latest)
+      go true = e
+      go false = e
 
   -- in pass p, with its declarations ds still to make and its block b left
   abbrev pub CoherentIn : Pass → Block → List Declaration → State → Type 0
@@ -166,35 +209,38 @@ module _ (layout : Layout) (c : ℕ) where
       writable = λ u t e. let g = j .rules .0 .sole writes t (rw q at e) in rw (← g .1) (w (g .0));
     }
 
-    needed : c < cell-count layout → (m : Mode) (σ : State) → CoherentIn p b (declaration m s a ∷ ds) σ → own ≡ a → Needed (at-cell (effect layout (need s a) σ)) s
-    needed i m σ k q = go (σ .flag s a) refl
+    needed : c < cell-count layout → (m : Mode) (σ : State) → CoherentIn p b (declaration m s a ∷ ds) σ → own ≡ a → Needed (at-cell (effect layout (whole-of need s a) σ)) s
+    needed i m σ k q = go (σ .flags a .flag s) refl
       where
         before : FlagsCurrent (at-cell σ)
         before = k .flags-current (undeclared m q)
 
-        go : (z : Bool) → σ .flag s a ≡ z → Needed (at-cell (effect layout (need s a) σ)) s
-        go true e = rw (need-set s a σ e) (record { flags-current = before; flag-set = rw q e })
+        own-flag : (z : Bool) → σ .flags a .flag s ≡ z → σ .flags own .flag s ≡ z
+        own-flag z e = rw q e
+
+        go : (z : Bool) → σ .flags a .flag s ≡ z → Needed (at-cell (effect layout (whole-of need s a) σ)) s
+        go true e = rw (need-set s a σ e q) (record { flags-current = before; flag-set = own-flag true e })
         go false e = rw (need-own i s a σ q e)
-            (record { flags-current = need-current s (at-cell σ) (opposite s (at-cell σ) before (k .flagged) (rw q e)); flag-set = refl })
+            (record { flags-current = need-current s (at-cell σ) (opposite s (at-cell σ) before (k .flagged) (own-flag false e)); flag-set = refl })
 
     -- R
     need-coherent : c < cell-count layout → (σ : State) → Judged layout p (declaration R s a ∷ ds) b → CoherentIn p b (declaration R s a ∷ ds) σ →
-        CoherentIn p b ds (effect layout (need s a) σ)
+        CoherentIn p b ds (effect layout (whole-of need s a) σ)
     need-coherent i σ j k = go (own-or-other a)
       where
-        go : (own ≡ a) ⊎ (eqb own a ≡ false) → CoherentIn p b ds (effect layout (need s a) σ)
+        go : (own ≡ a) ⊎ (eqb own a ≡ false) → CoherentIn p b ds (effect layout (whole-of need s a) σ)
         go (inl q) =
             let g = needed i R σ k q in
             let now = g .flags-current s (g .flag-set) in
-            made-coherent R (effect layout (need s a) σ) q j (s, now) (g .flag-set)
+            made-coherent R (effect layout (whole-of need s a) σ) q j (s, now) (g .flag-set)
             (λ t f. inl (g .flags-current t f)) (λ r. now) (λ w. absurd (false≢true w))
-        go (inr e) = other-coherent R σ (effect layout (need s a) σ) e (need-other i s a σ e) k
+        go (inr e) = other-coherent R σ (effect layout (whole-of need s a) σ) e (other-same (whole-of need s a) σ e) k
 
     -- the need of an RW
-    need-first-coherent : c < cell-count layout → (σ : State) → CoherentIn p b (declaration RW s a ∷ ds) σ → CoherentIn p b (declaration RW s a ∷ ds) (effect layout (need s a) σ)
+    need-first-coherent : c < cell-count layout → (σ : State) → CoherentIn p b (declaration RW s a ∷ ds) σ → CoherentIn p b (declaration RW s a ∷ ds) (effect layout (whole-of need s a) σ)
     need-first-coherent i σ k = go (own-or-other a)
       where
-        go : (own ≡ a) ⊎ (eqb own a ≡ false) → CoherentIn p b (declaration RW s a ∷ ds) (effect layout (need s a) σ)
+        go : (own ≡ a) ⊎ (eqb own a ≡ false) → CoherentIn p b (declaration RW s a ∷ ds) (effect layout (whole-of need s a) σ)
         go (inl q) =
             let u = undeclared RW q in
             let g = needed i RW σ k q in
@@ -206,36 +252,44 @@ module _ (layout : Layout) (c : ℕ) where
               readable = λ e. absurd (true≢false (sym u ∙ e));
               writable = λ e. absurd (true≢false (sym u ∙ e));
             }
-        go (inr e) = rw (need-other i s a σ e) k
+        go (inr e) = rw (other-same (whole-of need s a) σ e) k
 
     -- W, or the mark of an RW
     mark-coherent : (m : Mode) (σ : State) → Judged layout p (declaration m s a ∷ ds) b →
         (own ≡ a → Current (at-cell σ) s ⊎ (always-writes layout s c b ≡ true)) → (own ≡ a → reads m ≡ true → Current (at-cell σ) s) →
-        CoherentIn p b (declaration m s a ∷ ds) σ → CoherentIn p b ds (effect layout (mark s a) σ)
+        CoherentIn p b (declaration m s a ∷ ds) σ → CoherentIn p b ds (effect layout (whole-of mark s a) σ)
     mark-coherent m σ j on-side r k = go (own-or-other a)
       where
-        flags : own ≡ a → (t : Side) → at-cell (effect layout (mark s a) σ) .flag t ≡ is t s
+        flags : own ≡ a → (t : Side) → at-cell (effect layout (whole-of mark s a) σ) .flag t ≡ same-side t s
         flags q t = rw (eq-eqb own a q)
 
-        if-flagged : own ≡ a → (t : Side) → is t s ≡ true → Current (at-cell σ) t ⊎ (always-writes layout t c b ≡ true)
-        if-flagged q t e = rw (is-true t s e) (on-side q)
+        now : (t : Side) → Current (at-cell σ) t ⊎ (always-writes layout t c b ≡ true) → Current (at-cell (effect layout (whole-of mark s a) σ)) t ⊎ (always-writes layout t c b ≡ true)
+        now t (inl e) = inl (marked s a σ t e)
+        now t (inr e) = inr e
 
-        go : (own ≡ a) ⊎ (eqb own a ≡ false) → CoherentIn p b ds (effect layout (mark s a) σ)
-        go (inl q) = made-coherent m (effect layout (mark s a) σ) q j (k .current) (flags q s ∙ is-same s)
-            (λ t f. if-flagged q t (sym (flags q t) ∙ f)) (r q) (λ w. flags q (other s) ∙ is-other s)
-        go (inr e) = other-coherent m σ (effect layout (mark s a) σ) e (mark-other s a σ e) k
+        if-flagged : own ≡ a → (t : Side) → same-side t s ≡ true → Current (at-cell (effect layout (whole-of mark s a) σ)) t ⊎ (always-writes layout t c b ≡ true)
+        if-flagged q t e = now t (rw (is-true t s e) (on-side q))
+
+        go : (own ≡ a) ⊎ (eqb own a ≡ false) → CoherentIn p b ds (effect layout (whole-of mark s a) σ)
+        go (inl q) = made-coherent m (effect layout (whole-of mark s a) σ) q j (k .current .0, marked s a σ (k .current .0) (k .current .1)) (flags q s ∙ is-same s)
+            (λ t f. if-flagged q t (sym (flags q t) ∙ f)) (λ g. marked s a σ s (r q g)) (λ w. flags q (other s) ∙ is-other s)
+        go (inr e) = other-coherent m σ (effect layout (whole-of mark s a) σ) e (other-same (whole-of mark s a) σ e) k
 
   act-coherent : (p : Pass) (r : ℕ) (b : Block) (x : Action) (σ : State) → permits (p .declarations) x ≡ true → CoherentIn p (act r x b) [] σ →
       CoherentIn p b [] (effect layout x σ)
-  act-coherent p r b (read s x) σ e k = k
-  act-coherent p r b (write s x) σ e k = go (within layout x c) refl
+  act-coherent p r b x σ e k = go (x .verb) e k
     where
-      go : (z : Bool) → within layout x c ≡ z → CoherentIn p b [] (effect layout (write s x) σ)
-      go true w = rw (write-own s x σ w) (write-coherent s (suc (σ .writes)) (rw (within-array layout x c w) e) k)
-      go false w = rw (write-other s x σ w) (with-pending (λ t f. rw (w, and-false) at f) k)
-  act-coherent p r b (copy s x) σ e k = absurd (false≢true e)
-  act-coherent p r b (need s a) σ e k = absurd (false≢true e)
-  act-coherent p r b (mark s a) σ e k = absurd (false≢true e)
+      written : (z : Bool) → covers layout (as-verb write x) c ≡ z → declares writes (x .side) (x .name) (p .declarations) ≡ true →
+          CoherentIn p (act r (as-verb write x) b) [] σ → CoherentIn p b [] (effect layout (as-verb write x) σ)
+      written true w e k = rw (write-own x σ w) (write-coherent (x .side) (suc (σ .writes)) (rw (covers-array layout (as-verb write x) c w) e) k)
+      written false w e k = rw (write-other x σ w) (with-pending (λ t f. rw (w, and-false) at f) k)
+
+      go : (v : Verb) → permits (p .declarations) (as-verb v x) ≡ true → CoherentIn p (act r (as-verb v x) b) [] σ → CoherentIn p b [] (effect layout (as-verb v x) σ)
+      go read e k = rw (read-same x σ) k
+      go write e k = written (covers layout (as-verb write x) c) refl e k
+      go copy e k = absurd (false≢true (sym (barred (x .side) (x .name) (p .declarations)) ∙ e))
+      go need e k = absurd (false≢true (sym (barred (x .side) (x .name) (p .declarations)) ∙ e))
+      go mark e k = absurd (false≢true (sym (barred (x .side) (x .name) (p .declarations)) ∙ e))
 
   -- from the end of one pass to the call of the next: nothing is pending
   call-coherent : (p q : Pass) (σ : State) → CoherentIn p Block.done [] σ → CoherentIn q (q .body) (q .declarations) σ
@@ -284,7 +338,7 @@ module _ (plan : DeclaredPlan) (cs : List Bool) (ok : Accepts plan) (c : ℕ) (i
   coherent (needs-first {p = p} {s} {a} {ds} {n = n} h) = need-first-coherent layout c p (p .body) s a ds inside (n .state) (coherent h)
   coherent (marks-then (needs-first {p = p} {s} {a} {ds} {n = n} h)) =
       let k = coherent h in
-      let σ = effect layout (need s a) (n .state) in
+      let σ = effect layout (whole-of need s a) (n .state) in
       let now : array-of layout c ≡ a → Current (at-cell layout c σ) s = λ q.
       let g = needed layout c p (p .body) s a ds inside RW (n .state) k q in
       g .flags-current s (g .flag-set) in

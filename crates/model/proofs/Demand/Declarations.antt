@@ -7,7 +7,7 @@ use mathlib.Core.Bool.{Bool, true, false, not, _&&_, _||_, true≢false}
 use lib.Dec.{eqb}
 use borrow.Author.Tests.{eqb-true, eq-eqb, not-true}
 use Rattle.model.specs.Lists.{any, All}
-use Rattle.model.specs.Sides.{Side, is, Layout}
+use Rattle.model.specs.Sides.{Side, same-side, Layout}
 use Rattle.model.specs.Judging.{Mode, W, Declaration, Pass, pass-of, declared-once, declares, Written, Rules}
 use Rattle.model.proofs.Booleans.{or-out, or-left, or-right, and-out, is-true, any-append}
 
@@ -19,10 +19,15 @@ pub declares-any : (f : Mode → Bool) (s : Side) (a : ℕ) (ds : List Declarati
 declares-any f s a [] e = e
 declares-any f s a (d ∷ ds) e = go (declares-any f s a ds) (or-out _ (declares f s a ds) e)
   where
-    go : (declares f s a ds ≡ true → any (is-of a) ds ≡ true) → ((f (d .mode) && (is (d .side) s && eqb (d .array) a)) ≡ true) ⊎ (declares f s a ds ≡ true) →
+    go : (declares f s a ds ≡ true → any (is-of a) ds ≡ true) → ((f (d .mode) && (same-side (d .side) s && eqb (d .array) a)) ≡ true) ⊎ (declares f s a ds ≡ true) →
         (eqb (d .array) a || any (is-of a) ds) ≡ true
-    go ih (inl g) = or-left (eqb (d .array) a) _ (and-out (is (d .side) s) _ (and-out (f (d .mode)) _ g .1) .1)
+    go ih (inl g) = or-left (eqb (d .array) a) _ (and-out (same-side (d .side) s) _ (and-out (f (d .mode)) _ g .1) .1)
     go ih (inr g) = or-right (eqb (d .array) a) _ (ih g)
+
+-- no mode allows what is barred
+pub barred : (s : Side) (a : ℕ) (ds : List Declaration) → declares (λ m. false) s a ds ≡ false
+barred s a [] = refl
+barred s a (d ∷ ds) = barred s a ds
 
 -- the first declaration is of no array of the others
 pub once-first : (d : Declaration) (ds : List Declaration) → declared-once (d ∷ ds) ≡ true → any (is-of (d .array)) ds ≡ false
@@ -36,8 +41,8 @@ sole : (before : List Declaration) (d : Declaration) (ds : List Declaration) →
     (f : Mode → Bool) (s : Side) → declares f s (d .array) (before ++ (d ∷ ds)) ≡ true → (f (d .mode) ≡ true) × (d .side ≡ s)
 sole [] d ds o f s e = go (or-out _ (declares f s (d .array) ds) e)
   where
-    go : ((f (d .mode) && (is (d .side) s && eqb (d .array) (d .array))) ≡ true) ⊎ (declares f s (d .array) ds ≡ true) → (f (d .mode) ≡ true) × (d .side ≡ s)
-    go (inl g) = let h = and-out (f (d .mode)) _ g in (h .0, is-true (d .side) s (and-out (is (d .side) s) _ (h .1) .0))
+    go : ((f (d .mode) && (same-side (d .side) s && eqb (d .array) (d .array))) ≡ true) ⊎ (declares f s (d .array) ds ≡ true) → (f (d .mode) ≡ true) × (d .side ≡ s)
+    go (inl g) = let h = and-out (f (d .mode)) _ g in (h .0, is-true (d .side) s (and-out (same-side (d .side) s) _ (h .1) .0))
     go (inr g) = absurd (true≢false (sym (declares-any f s (d .array) ds g) ∙ once-first d ds o))
 sole (x ∷ before) d ds o f s e = go (sole before d ds (once-rest x (before ++ (d ∷ ds)) o) f s) (or-out _ (declares f s (d .array) (before ++ (d ∷ ds))) e)
   where
@@ -46,9 +51,9 @@ sole (x ∷ before) d ds o f s e = go (sole before d ds (once-rest x (before ++ 
         (or-right (any (is-of (x .array)) before) _ (or-left (eqb (d .array) (x .array)) _ (eq-eqb (d .array) (x .array) (sym q))))
 
     go : (declares f s (d .array) (before ++ (d ∷ ds)) ≡ true → (f (d .mode) ≡ true) × (d .side ≡ s)) →
-        ((f (x .mode) && (is (x .side) s && eqb (x .array) (d .array))) ≡ true) ⊎ (declares f s (d .array) (before ++ (d ∷ ds)) ≡ true) → (f (d .mode) ≡ true) × (d .side ≡ s)
+        ((f (x .mode) && (same-side (x .side) s && eqb (x .array) (d .array))) ≡ true) ⊎ (declares f s (d .array) (before ++ (d ∷ ds)) ≡ true) → (f (d .mode) ≡ true) × (d .side ≡ s)
     go ih (inl g) =
-        let q = eqb-true (x .array) (d .array) (and-out (is (x .side) s) _ (and-out (f (x .mode)) _ g .1) .1) in
+        let q = eqb-true (x .array) (d .array) (and-out (same-side (x .side) s) _ (and-out (f (x .mode)) _ g .1) .1) in
         absurd (true≢false (sym (again q) ∙ once-first x (before ++ (d ∷ ds)) o))
     go ih (inr g) = ih g
 

@@ -4,55 +4,68 @@ use mathlib.Core.Path.{_≡_, refl, ap, sym, _∙_, subst}
 use mathlib.Core.Logic.{_⊎_, inl, inr}
 use mathlib.Core.List.{List, [], _∷_}
 use mathlib.Core.Option.{Option, none, some}
-use mathlib.Core.Bool.{Bool, true, false, cond, false≢true}
+use mathlib.Core.Bool.{Bool, true, false, cond, not, _||_, or-true, false≢true}
 use native.Mathlib.Omega.{arith}
 use lib.Dec.{eqb}
 use borrow.Author.Tests.{eq-eqb}
-use Rattle.model.specs.Sides.{Side, other, Layout, cell-count, Cells, within}
-use Rattle.model.specs.Effects.{Action, read, write, copy, need, mark, State, current, met, effect}
+use Rattle.model.specs.Sides.{Side, other, Layout, cell-count}
+use Rattle.model.specs.Records.{Verb, read, write, copy, need, mark, Action, whole-of, covers}
+use Rattle.model.specs.Effects.{Flags, State, current, Deed, needs as needs-cell, met, effect}
 use Rattle.model.specs.Blocks.{Block, act, branch, loop, _then_}
 use Rattle.model.specs.Runs.{Event, Config, Ending, finished, stopped, out-of-choices, Step, next, ends, carry, lowest-unmet, stop-or, step, here, onward, Run, Ends}
 use Rattle.model.specs.Judging.{Mode, R, W, RW, Declaration, Pass, Body0, DeclaredPlan, no-pass, pass-of, permits, Accepts}
 use Rattle.model.specs.Expanding.{given, declared, expand, expansion}
 use Rattle.model.specs.Demand.{Made}
 use Rattle.model.specs.Inner.Holders.{array-of}
+use Rattle.model.proofs.Needs.{flag-set, flag-clear}
 use Rattle.model.proofs.Runs.{config, event}
-use Rattle.model.proofs.Numbering.{in-own, within-array}
+use Rattle.model.proofs.Numbering.{covers-array}
+use Rattle.model.proofs.Stamps.{as-verb}
 use Rattle.model.proofs.Unmet.{none-unmet}
 use Rattle.model.proofs.Demand.Blocks.{_before_, then-assoc, expand-before}
+use Rattle.model.proofs.Demand.Declarations.{barred}
 use Rattle.model.proofs.Demand.Numbers.{unnumbered, unnumbered-same, unnumbered-config, unnumbered-step, step-unnumbered}
 use Rattle.model.proofs.Demand.Stages.{declaration, Stage, in-body, declaring, marking, left-of, Progress, calling, Stages, begins, calls, enters, needs, marks, needs-first, marks-then, acts, branches, loops, branches0, loops0, judged, permitted-now}
-use Rattle.model.proofs.Demand.Coherence.{Current, opposite, at-cell, own-or-other, CoherentIn, undeclared, coherent}
+use Rattle.model.proofs.Demand.Coherence.{Current, opposite, at-cell, own-or-other, not-covered, CoherentIn, undeclared, coherent}
 
 -- what a record of an accepted plan needs of a cell is there
 module _ (layout : Layout) (c : ℕ) (σ : State) where
-  is-current : (s : Side) → Current (at-cell layout c σ) s → current σ s c ≡ true
-  is-current s e = rw e (eq-eqb (σ .latest c) (σ .latest c) refl)
+  is-current : (s : Side) → Current (at-cell layout c σ) s → current (σ .cell c) s ≡ true
+  is-current s e = rw e (eq-eqb (σ .cell c .latest) (σ .cell c .latest) refl)
 
-  read-met : (p : Pass) (b : Block) (s : Side) (x : Cells) → permits (p .declarations) (read s x) ≡ true → CoherentIn layout c p b [] σ →
-      met layout (read s x) σ c ≡ true
-  read-met p b s x e k = go (within layout x c) refl
+  read-met : (p : Pass) (b : Block) (x : Action) → permits (p .declarations) (as-verb read x) ≡ true → CoherentIn layout c p b [] σ →
+      met layout (as-verb read x) σ c ≡ true
+  read-met p b x e k = go (covers layout (as-verb read x) c) refl
     where
-      go : (z : Bool) → within layout x c ≡ z → met layout (read s x) σ c ≡ true
-      go true w = rw w (is-current s (k .readable refl s (rw (within-array layout x c w) e) .0))
+      go : (z : Bool) → covers layout (as-verb read x) c ≡ z → met layout (as-verb read x) σ c ≡ true
+      go true w = rw w (is-current (x .side) (k .readable refl (x .side) (rw (covers-array layout (as-verb read x) c w) e) .0))
       go false w = rw w
 
   act-met : (p : Pass) (b : Block) (x : Action) → permits (p .declarations) x ≡ true → CoherentIn layout c p b [] σ → met layout x σ c ≡ true
-  act-met p b (read s x) e k = read-met p b s x e k
-  act-met p b (write s x) e k = refl
-  act-met p b (copy s x) e k = absurd (false≢true e)
-  act-met p b (need s a) e k = absurd (false≢true e)
-  act-met p b (mark s a) e k = refl
-
-  need-met : c < cell-count layout → (p : Pass) (b : Block) (m : Mode) (s : Side) (a : ℕ) (ds : List Declaration) → CoherentIn layout c p b (declaration m s a ∷ ds) σ →
-      met layout (need s a) σ c ≡ true
-  need-met i p b m s a ds k = go (σ .flag s a) refl (own-or-other layout c a)
+  act-met p b x e k = go (x .verb) e
     where
-      go : (z : Bool) → σ .flag s a ≡ z → (array-of layout c ≡ a) ⊎ (eqb (array-of layout c) a ≡ false) → met layout (need s a) σ c ≡ true
-      go true e o = rw e
-      go false e (inl q) = rw (e, in-own layout c i a, eq-eqb (array-of layout c) a q)
-          (is-current (other s) (opposite s (at-cell layout c σ) (k .flags-current (undeclared layout c p b s a ds m q)) (k .flagged) (rw q e)))
-      go false e (inr q) = rw (e, in-own layout c i a, q)
+      go : (v : Verb) → permits (p .declarations) (as-verb v x) ≡ true → met layout (as-verb v x) σ c ≡ true
+      go read e = read-met p b x e k
+      go write e = or-true (not (covers layout (as-verb write x) c))
+      go copy e = absurd (false≢true (sym (barred (x .side) (x .name) (p .declarations)) ∙ e))
+      go need e = absurd (false≢true (sym (barred (x .side) (x .name) (p .declarations)) ∙ e))
+      go mark e = or-true (not (covers layout (as-verb mark x) c))
+
+  need-met : (p : Pass) (b : Block) (m : Mode) (s : Side) (a : ℕ) (ds : List Declaration) → CoherentIn layout c p b (declaration m s a ∷ ds) σ →
+      met layout (whole-of need s a) σ c ≡ true
+  need-met p b m s a ds k = go (σ .flags a .flag s) refl (own-or-other layout c a)
+    where
+      need-of : (z : Bool) → σ .flags a .flag s ≡ z → met layout (whole-of need s a) σ c ≡ (not (covers layout (whole-of need s a) c) || (z || current (σ .cell c) (other s)))
+      need-of true e = ap (λ (r : Deed × Flags). not (covers layout (whole-of need s a) c) || needs-cell (r .0) (σ .cell c)) (flag-set s (σ .flags a) e)
+      need-of false e = ap (λ (r : Deed × Flags). not (covers layout (whole-of need s a) c) || needs-cell (r .0) (σ .cell c)) (flag-clear s (σ .flags a) e)
+
+      go : (z : Bool) → σ .flags a .flag s ≡ z → (array-of layout c ≡ a) ⊎ (eqb (array-of layout c) a ≡ false) → met layout (whole-of need s a) σ c ≡ true
+      go true e o = need-of true e ∙ or-true (not (covers layout (whole-of need s a) c))
+      go false e (inl q) =
+          let own-clear : σ .flags (array-of layout c) .flag s ≡ false = rw q e in
+          need-of false e
+          ∙ rw (is-current (other s) (opposite s (at-cell layout c σ) (k .flags-current (undeclared layout c p b s a ds m q)) (k .flagged) own-clear)) (or-true (not (covers layout (whole-of need s a) c)))
+      go false e (inr q) = need-of false e ∙ rw (not-covered layout c (whole-of need s a) q)
 
 module _ (plan : DeclaredPlan) (cs : List Bool) where
   -- a configuration without record numbers that stands at a stage
@@ -117,13 +130,13 @@ module _ (plan : DeclaredPlan) (cs : List Bool) where
         a = d .array
 
         needed : (m : Mode) → Stages plan cs (declaring p (declaration m s a ∷ ds) t) ch n → (c : ℕ) → c < cell-count layout →
-            met layout (need s a) (n .state) c ≡ true
-        needed m h c i = need-met layout c (n .state) i p (p .body) m s a ds (coherent plan cs ok c i h)
+            met layout (whole-of need s a) (n .state) c ≡ true
+        needed m h c i = need-met layout c (n .state) p (p .body) m s a ds (coherent plan cs ok c i h)
 
         go : (m : Mode) → Stages plan cs (declaring p (declaration m s a ∷ ds) t) ch n → ContinuesFrom (given m s a rest) ch n
-        go R h = act-next 0 (need s a) rest ch n (needed R h) (at-stage rest ch refl (needs h))
-        go W h = act-next 0 (mark s a) rest ch n (λ c i. refl) (at-stage rest ch refl (marks h))
-        go RW h = act-next 0 (need s a) (act 0 (mark s a) rest) ch n (needed RW h) (at-stage (act 0 (mark s a) rest) ch refl (needs-first h))
+        go R h = act-next 0 (whole-of need s a) rest ch n (needed R h) (at-stage rest ch refl (needs h))
+        go W h = act-next 0 (whole-of mark s a) rest ch n (λ c i. or-true (not (covers layout (whole-of mark s a) c))) (at-stage rest ch refl (marks h))
+        go RW h = act-next 0 (whole-of need s a) (act 0 (whole-of mark s a) rest) ch n (needed RW h) (at-stage (act 0 (whole-of mark s a) rest) ch refl (needs-first h))
 
     body-next : (b : Block) (t : Body0) (p : Pass) (ch : List Bool) (n : Progress) →
         (Stages plan cs (in-body p Block.done t) ch n → ContinuesFrom (expand passes t) ch n) →
@@ -165,7 +178,7 @@ module _ (plan : DeclaredPlan) (cs : List Bool) where
     stage-next (declaring p ds t) ch n h = declare-next p ds t ch n h (body-next (p .body) t p ch n (body0-next t p ch n))
     stage-next (marking p s a m ds t) ch n h =
         let rest = declared ds (p .body then expand passes t) in
-        act-next 0 (mark s a) rest ch n (λ c i. refl) (at-stage rest ch refl (marks-then h))
+        act-next 0 (whole-of mark s a) rest ch n (λ c i. or-true (not (covers layout (whole-of mark s a) c))) (at-stage rest ch refl (marks-then h))
 
     continue : (k : Config) → Follows (unnumbered-config k) → Continues (k .choices) (k .history) (unnumbered-step (step layout k))
     continue k f = subst (Continues (k .choices) (k .history)) same (stage-next (f .stage) (k .choices) _ (f .stages))

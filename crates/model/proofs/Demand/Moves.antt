@@ -6,13 +6,16 @@ use mathlib.Core.Bool.{Bool, true, false, cond, not, _&&_, _||_, or-true, or-fal
 use lib.Dec.{eqb}
 use borrow.Author.Tests.{eqb-true}
 use Rattle.model.specs.Lists.{any}
-use Rattle.model.specs.Sides.{Side, host, other, is, Layout}
-use Rattle.model.specs.Effects.{Action, read, write, copy, need, mark, State, effect}
+use Rattle.model.specs.Sides.{Side, host, other, same-side, Layout}
+use Rattle.model.specs.Records.{Verb, read, write, copy, need, mark, Action, whole-of}
+use Rattle.model.specs.Effects.{Flags, State, Deed, comes-to, effect}
 use Rattle.model.specs.Blocks.{Block}
-use Rattle.model.specs.Runs.{copies}
 use Rattle.model.specs.Judging.{Mode, R, W, RW, reads, writes, Declaration, Pass, Body0, DeclaredPlan, permits, Accepts}
-use Rattle.model.specs.Demand.{Made, declares-read, declares-write, moves, Opens, at-start, Closes, at-end}
+use Rattle.model.specs.Demand.{Made, declares-read, declares-write, moves-of, Opens, at-start, Closes, at-end}
+use Rattle.model.proofs.Needs.{flag-set, flag-clear}
 use Rattle.model.proofs.Booleans.{or-none, eqb-swap, is-not}
+use Rattle.model.proofs.Stamps.{as-verb}
+use Rattle.model.proofs.Demand.Declarations.{barred}
 use Rattle.model.proofs.Demand.Stages.{Stage, in-body, declaring, marking, Progress, Stages, begins, calls, enters, needs, marks, needs-first, marks-then, acts, branches, loops, branches0, loops0, judged, permitted-now}
 
 -- an interval of an array so far: the side of the declared write that begins it, and whether R has been declared on the opposite side since
@@ -25,13 +28,13 @@ interval w b = record { writer = w; shared = b }
 
 -- after one more declaration of the array
 abbrev extended : Mode → Side → Interval → Interval
-extended R s i = interval (i .writer) (is s (other (i .writer)) || i .shared)
+extended R s i = interval (i .writer) (same-side s (other (i .writer)) || i .shared)
 extended W s i = interval s false
 extended RW s i = interval s false
 
 -- the array's flags then
 abbrev flags : Interval → Side → Bool
-flags i t = is t (i .writer) || i .shared
+flags i t = same-side t (i .writer) || i .shared
 
 module _ (a : ℕ) where
   -- whether a declaration is one of the array
@@ -52,11 +55,11 @@ module _ (a : ℕ) where
   Exact (d ∷ l) = ExactIn (interval-of l) d × Exact l
 
   abbrev Flagged : State → Interval → Type 0
-  Flagged σ i = (t : Side) → σ .flag t a ≡ flags i t
+  Flagged σ i = (t : Side) → σ .flags a .flag t ≡ flags i t
 
   need-flags : (layout : Layout) (s : Side) (b : ℕ) (σ : State) (i : Interval) → Flagged σ i →
-      Flagged (effect layout (need s b) σ) (cond (eqb b a) (extended R s i) i)
-  need-flags layout s b σ i f t = go (eqb b a) refl (σ .flag s b) refl
+      Flagged (effect layout (whole-of need s b) σ) (cond (eqb b a) (extended R s i) i)
+  need-flags layout s b σ i f t = go (eqb b a) refl (σ .flags b .flag s) refl
     where
       set : (x y z : Bool) → (x || y) ≡ true → (z || y) ≡ (z || (not x || y))
       set true y z e = refl
@@ -66,18 +69,24 @@ module _ (a : ℕ) where
       clear true y z e = absurd (true≢false e)
       clear false y z e = sym (or-true z)
 
-      go : (o : Bool) → eqb b a ≡ o → (g : Bool) → σ .flag s b ≡ g → effect layout (need s b) σ .flag t a ≡ flags (cond (eqb b a) (extended R s i) i) t
-      go true q true e = rw (q, e, f t, is-not s (i .writer)) (set (is s (i .writer)) (i .shared) (is t (i .writer)) (sym (f s) ∙ (rw (eqb-true b a q) at e)))
-      go true q false e = rw (q, e, eqb-swap a b, q, is-not s (i .writer)) (clear (is s (i .writer)) (i .shared) (is t (i .writer)) (sym (f s) ∙ (rw (eqb-true b a q) at e)))
-      go false q true e = rw (q, e) (f t)
-      go false q false e = rw (q, e, eqb-swap a b, q) (f t)
+      flags-after : (g : Bool) → σ .flags b .flag s ≡ g → eqb b a ≡ true → effect layout (whole-of need s b) σ .flags a .flag t ≡ cond g (σ .flags a .flag t) true
+      flags-after g e q = rw (eqb-swap a b ∙ q, ← eqb-true b a q) (by-flag g e)
+        where
+          by-flag : (g : Bool) → σ .flags b .flag s ≡ g → comes-to need s (σ .flags b) .1 .flag t ≡ cond g (σ .flags b .flag t) true
+          by-flag true e = ap (λ (r : Deed × Flags). r .1 .flag t) (flag-set s (σ .flags b) e)
+          by-flag false e = ap (λ (r : Deed × Flags). r .1 .flag t) (flag-clear s (σ .flags b) e)
+
+      go : (o : Bool) → eqb b a ≡ o → (g : Bool) → σ .flags b .flag s ≡ g → effect layout (whole-of need s b) σ .flags a .flag t ≡ flags (cond (eqb b a) (extended R s i) i) t
+      go true q true e = flags-after true e q ∙ rw (q, f t, is-not s (i .writer)) (set (same-side s (i .writer)) (i .shared) (same-side t (i .writer)) (sym (f s) ∙ (rw (eqb-true b a q) at e)))
+      go true q false e = flags-after false e q ∙ rw (q, is-not s (i .writer)) (clear (same-side s (i .writer)) (i .shared) (same-side t (i .writer)) (sym (f s) ∙ (rw (eqb-true b a q) at e)))
+      go false q g e = rw (q, eqb-swap a b, q) (f t)
 
   mark-flags : (layout : Layout) (s : Side) (b : ℕ) (σ : State) (i : Interval) → (eqb b a ≡ false → Flagged σ i) →
-      Flagged (effect layout (mark s b) σ) (cond (eqb b a) (interval s false) i)
+      Flagged (effect layout (whole-of mark s b) σ) (cond (eqb b a) (interval s false) i)
   mark-flags layout s b σ i f t = rw (eqb-swap a b) (go (eqb b a) refl)
     where
-      go : (o : Bool) → eqb b a ≡ o → cond (eqb b a) (is t s) (σ .flag t a) ≡ flags (cond (eqb b a) (interval s false) i) t
-      go true q = rw (q, or-false (is t s))
+      go : (o : Bool) → eqb b a ≡ o → cond (eqb b a) (record { flag = λ t. same-side t s }) (σ .flags a) .flag t ≡ flags (cond (eqb b a) (interval s false) i) t
+      go true q = rw (q, or-false (same-side t s))
       go false q = rw q (f q t)
 
   record Counted (σ : State) (made : List Made) : Type 0 where
@@ -92,18 +101,28 @@ module _ (a : ℕ) where
 
   act-counted : (layout : Layout) (ds : List Declaration) (x : Action) (σ : State) (made : List Made) → permits ds x ≡ true → Counted σ made →
       Counted (effect layout x σ) made
-  act-counted layout ds (read s x) σ l e k = k
-  act-counted layout ds (write s x) σ l e k = record { flagged = k .flagged; exact = k .exact }
-  act-counted layout ds (copy s x) σ l e k = absurd (false≢true e)
-  act-counted layout ds (need s b) σ l e k = absurd (false≢true e)
-  act-counted layout ds (mark s b) σ l e k = absurd (false≢true e)
+  act-counted layout ds x σ l e k = go (x .verb) e
+    where
+      kept : (v : Verb) → ((f : Flags) → comes-to v (x .side) f .1 ≡ f) → Counted (effect layout (as-verb v x) σ) l
+      kept v h = record { flagged = λ t. same (eqb a (x .name)) t ∙ k .flagged t; exact = k .exact }
+        where
+          same : (b : Bool) (t : Side) → cond b (comes-to v (x .side) (σ .flags a) .1) (σ .flags a) .flag t ≡ σ .flags a .flag t
+          same true t = ap (λ (f : Flags). f .flag t) (h (σ .flags a))
+          same false t = refl
 
-  copies-exactly : (s : Side) (b : ℕ) (σ : State) (i : Interval) → Flagged σ i → eqb b a ≡ true → copies (need s b) σ ≡ not (flags i s)
+      go : (v : Verb) → permits ds (as-verb v x) ≡ true → Counted (effect layout (as-verb v x) σ) l
+      go read e = kept read (λ f. refl)
+      go write e = kept write (λ f. refl)
+      go copy e = absurd (false≢true (sym (barred (x .side) (x .name) ds) ∙ e))
+      go need e = absurd (false≢true (sym (barred (x .side) (x .name) ds) ∙ e))
+      go mark e = absurd (false≢true (sym (barred (x .side) (x .name) ds) ∙ e))
+
+  copies-exactly : (s : Side) (b : ℕ) (σ : State) (i : Interval) → Flagged σ i → eqb b a ≡ true → not (σ .flags b .flag s) ≡ not (flags i s)
   copies-exactly s b σ i f q = rw (eqb-true b a q) (ap not (f s))
 
   module _ (plan : DeclaredPlan) (cs : List Bool) (ok : Accepts plan) where
     counted : {k : Stage} {ch : List Bool} {n : Progress} → Stages plan cs k ch n → CountedAt k n
-    counted begins = record { flagged = λ t. sym (or-false (is t host)); exact = tt }
+    counted begins = record { flagged = λ t. sym (or-false (same-side t host)); exact = tt }
     counted (calls h) = counted h
     counted (enters h) = counted h
     counted (needs {s = s} {a = b} {n = n} h) = let k = counted h in record {
@@ -119,7 +138,7 @@ module _ (a : ℕ) where
         let k = counted h in
         let i = interval-of (n .made) in
         record {
-          flagged = mark-flags (plan .layout) s b (effect (plan .layout) (need s b) (n .state)) i (λ q. rw q at (need-flags (plan .layout) s b (n .state) i (k .flagged)));
+          flagged = mark-flags (plan .layout) s b (effect (plan .layout) (whole-of need s b) (n .state)) i (λ q. rw q at (need-flags (plan .layout) s b (n .state) i (k .flagged)));
           exact = (copies-exactly s b (n .state) i (k .flagged), k .exact);
         }
     counted (acts {p = p} {x = x} {n = n} h) = act-counted (plan .layout) (p .declarations) x (n .state) (n .made) (permitted-now x (judged plan cs ok h)) (counted h)
@@ -141,7 +160,7 @@ module _ (a : ℕ) where
 
   -- one more declaration, no declared write of the array
   extended-by-read : (o : Bool) (m : Mode) (s w : Side) (b : Bool) → (o && writes m) ≡ false →
-      cond o (extended m s (interval w b)) (interval w b) ≡ interval w (o && (reads m && is s (other w)) || b)
+      cond o (extended m s (interval w b)) (interval w b) ≡ interval w (o && (reads m && same-side s (other w)) || b)
   extended-by-read true R s w b e = refl
   extended-by-read true W s w b e = absurd (true≢false e)
   extended-by-read true RW s w b e = absurd (true≢false e)
@@ -159,14 +178,14 @@ module _ (a : ℕ) where
       moved true false false e = ap suc e
 
       go : (o : Bool) → (o ≡ true → d .copied ≡ (reads (d .declaration .mode) && not (flags (interval w b) (d .declaration .side)))) →
-          cond (o && d .copied) (suc k) k ≡ cond (o && (reads (d .declaration .mode) && not (is (d .declaration .side) w)) || b) 1 0
-      go true g = rw (g refl) (moved (reads (d .declaration .mode)) (is (d .declaration .side) w) b e)
+          cond (o && d .copied) (suc k) k ≡ cond (o && (reads (d .declaration .mode) && not (same-side (d .declaration .side) w)) || b) 1 0
+      go true g = rw (g refl) (moved (reads (d .declaration .mode)) (same-side (d .declaration .side) w) b e)
       go false g = e
 
   -- declarations of an interval after the one that begins it, none of them a declared write of the array
   record Counts (w : Side) (during before : List Made) : Type 0 where
     stands : interval-of (during ++ before) ≡ interval w (any (declares-read a (other w)) during)
-    moved : moves a during ≡ cond (any (declares-read a (other w)) during) 1 0
+    moved : moves-of a during ≡ cond (any (declares-read a (other w)) during) 1 0
 
   counts : (w : Side) (during before : List Made) → interval-of before ≡ interval w false → any (declares-write a) during ≡ false →
       Exact (during ++ before) → Counts w during before
@@ -177,7 +196,7 @@ module _ (a : ℕ) where
       let b = any (declares-read a (other w)) l in
       record {
         stands = rw (i .stands) (extended-by-read (own d) (d .declaration .mode) (d .declaration .side) w b (o .0));
-        moved = one-more d w b (moves a l) (λ q. rw (i .stands) at (x .0 q)) (i .moved);
+        moved = one-more d w b (moves-of a l) (λ q. rw (i .stands) at (x .0 q)) (i .moved);
       }
 
   exact-from : (after l : List Made) → Exact (after ++ l) → Exact l
@@ -186,16 +205,16 @@ module _ (a : ℕ) where
 
   intervals : (made : List Made) → Exact made → (w : Side) (before during after : List Made) → made ≡ after ++ (during ++ before) → Opens a before w →
       Closes a during after →
-      moves a during ≡ cond (any (declares-read a (other w)) during) 1 0
+      moves-of a during ≡ cond (any (declares-read a (other w)) during) 1 0
   intervals made x w before during after e o (at-end l n) = counts w l before (opened o) n (subst Exact e x) .moved
   intervals made x w before during after e o (Closes.at-next d l after′ n y) =
       let z = exact-from after ((d ∷ l) ++ before) (subst Exact e x) in
       let i = counts w l before (opened o) n (z .1) in
-      one-more d w (any (declares-read a (other w)) l) (moves a l) (λ q. rw (i .stands) at (z .0 q)) (i .moved)
+      one-more d w (any (declares-read a (other w)) l) (moves-of a l) (λ q. rw (i .stands) at (z .0 q)) (i .moved)
 
   -- in each interval the array moves once if R or RW of it is declared on the opposite side, else never
   pub moves-once : (plan : DeclaredPlan) (cs : List Bool) → Accepts plan → {p : Pass} {b : Block} {t : Body0} {ch : List Bool} {n : Progress} →
       Stages plan cs (in-body p b t) ch n →
       (w : Side) (before during after : List Made) → n .made ≡ after ++ (during ++ before) → Opens a before w → Closes a during after →
-      moves a during ≡ cond (any (declares-read a (other w)) during) 1 0
+      moves-of a during ≡ cond (any (declares-read a (other w)) during) 1 0
   moves-once plan cs ok {n = n} h = intervals (n .made) (counted plan cs ok h .exact)

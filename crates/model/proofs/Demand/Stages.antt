@@ -1,22 +1,25 @@
 -- The stages of a run of an expansion, and what holds at each: the walk through body 0, the declarations made,
 -- the judge's rules for what is left of the pass, the needs and marks executed.
 use Prim.Native.Nat.{ℕ}
-use mathlib.Core.Path.{_≡_, refl, ap, _∙_}
+use mathlib.Core.Path.{_≡_, refl, ap, sym, _∙_}
 use mathlib.Core.List.{List, [], _∷_, map, reverseAux as onto}
-use mathlib.Core.Bool.{Bool, true, false, cond, false≢true}
+use mathlib.Core.Bool.{Bool, true, false, cond, not, false≢true}
 use Rattle.model.specs.Lists.{All}
 use Rattle.model.specs.Sides.{Side, Layout}
-use Rattle.model.specs.Effects.{Action, read, write, copy, need, mark, State, start, effect}
+use Rattle.model.specs.Records.{Verb, read, write, copy, need, mark, Action, whole-of}
+use Rattle.model.specs.Effects.{Flags, State, start, Deed, deed, effect}
 use Rattle.model.specs.Blocks.{Block, act, branch, loop, _then_}
-use Rattle.model.specs.Runs.{Event, copies}
+use Rattle.model.specs.Runs.{Event}
 use Rattle.model.specs.Judging.{Mode, R, W, RW, Declaration, Pass, Body0, DeclaredPlan, no-pass, pass-of, declared-once, permits, every, Way, Accepts}
 use Rattle.model.specs.Expanding.{declared, expand}
-use Rattle.model.specs.Demand.{Walk, declarations-of, Made, executed-of, asked}
+use Rattle.model.specs.Demand.{Walk, declarations-of, Made, copied-if, executed-of, asked}
 use Rattle.model.proofs.Booleans.{and-out}
+use Rattle.model.proofs.Needs.{flag-set, flag-clear}
 use Rattle.model.proofs.Runs.{event}
+use Rattle.model.proofs.Stamps.{as-verb}
 use Rattle.model.proofs.Demand.Blocks.{_before_, every-branch, every-loop}
 use Rattle.model.proofs.Demand.Walks.{HasWay, way-branch, way-loop, walk-branch, walk-turn}
-use Rattle.model.proofs.Demand.Declarations.{Rule, each-rule, rules-of, once-rest}
+use Rattle.model.proofs.Demand.Declarations.{barred, Rule, each-rule, rules-of, once-rest}
 
 abbrev pub declaration : Mode → Side → ℕ → Declaration
 declaration m s a = record { mode = m; side = s; array = a }
@@ -53,7 +56,7 @@ body0-left (marking p s a m ds t) = t
 abbrev pub left-of : List Pass → Stage → Block
 left-of passes (in-body p b t) = b then expand passes t
 left-of passes (declaring p ds t) = declared ds (p .body then expand passes t)
-left-of passes (marking p s a m ds t) = act 0 (mark s a) (declared ds (p .body then expand passes t))
+left-of passes (marking p s a m ds t) = act 0 (whole-of mark s a) (declared ds (p .body then expand passes t))
 
 -- what a run has done: its state and history, the declarations made and the passes called, the last one first
 pub record Progress : Type 0 where
@@ -84,18 +87,18 @@ module _ (plan : DeclaredPlan) (cs : List Bool) where
     -- R
     needs : {p : Pass} {s : Side} {a : ℕ} {ds : List Declaration} {t : Body0} {ch : List Bool} {n : Progress} →
         Stages (declaring p (declaration R s a ∷ ds) t) ch n →
-        Stages (declaring p ds t) ch (making R s a (copies (need s a) (n .state)) (executing (need s a) n))
+        Stages (declaring p ds t) ch (making R s a (not (n .state .flags a .flag s)) (executing (whole-of need s a) n))
     -- W
     marks : {p : Pass} {s : Side} {a : ℕ} {ds : List Declaration} {t : Body0} {ch : List Bool} {n : Progress} →
         Stages (declaring p (declaration W s a ∷ ds) t) ch n →
-        Stages (declaring p ds t) ch (making W s a false (executing (mark s a) n))
+        Stages (declaring p ds t) ch (making W s a false (executing (whole-of mark s a) n))
     -- RW
     needs-first : {p : Pass} {s : Side} {a : ℕ} {ds : List Declaration} {t : Body0} {ch : List Bool} {n : Progress} →
         Stages (declaring p (declaration RW s a ∷ ds) t) ch n →
-        Stages (marking p s a (copies (need s a) (n .state)) ds t) ch (executing (need s a) n)
+        Stages (marking p s a (not (n .state .flags a .flag s)) ds t) ch (executing (whole-of need s a) n)
     marks-then : {p : Pass} {s : Side} {a : ℕ} {m : Bool} {ds : List Declaration} {t : Body0} {ch : List Bool} {n : Progress} →
         Stages (marking p s a m ds t) ch n →
-        Stages (declaring p ds t) ch (making RW s a m (executing (mark s a) n))
+        Stages (declaring p ds t) ch (making RW s a m (executing (whole-of mark s a) n))
     -- the body of a pass
     acts : {p : Pass} {r : ℕ} {x : Action} {b : Block} {t : Body0} {ch : List Bool} {n : Progress} → Stages (in-body p (act r x b) t) ch n →
         Stages (in-body p b t) ch (executing x n)
@@ -207,23 +210,34 @@ module _ (plan : DeclaredPlan) (cs : List Bool) (ok : Accepts plan) where
   abbrev Asked : Stage → Progress → Type 0
   Asked (in-body p b t) n = asked (n .history) ≡ executed-of (n .made)
   Asked (declaring p ds t) n = asked (n .history) ≡ executed-of (n .made)
-  Asked (marking p s a m ds t) n = asked (n .history) ≡ record { action = need s a; copied = m } ∷ executed-of (n .made)
+  Asked (marking p s a m ds t) n = asked (n .history) ≡ record { action = whole-of need s a; deed = copied-if m s } ∷ executed-of (n .made)
 
   permitted-asks : (ds : List Declaration) (x : Action) (σ : State) (l : List Event) → permits ds x ≡ true → asked (event x σ ∷ l) ≡ asked l
-  permitted-asks ds (read s x) σ l e = refl
-  permitted-asks ds (write s x) σ l e = refl
-  permitted-asks ds (copy s x) σ l e = refl
-  permitted-asks ds (need s a) σ l e = absurd (false≢true e)
-  permitted-asks ds (mark s a) σ l e = absurd (false≢true e)
+  permitted-asks ds x σ l e = go (x .verb) e
+    where
+      go : (v : Verb) → permits ds (as-verb v x) ≡ true → asked (event (as-verb v x) σ ∷ l) ≡ asked l
+      go read e = refl
+      go write e = refl
+      go copy e = refl
+      go need e = absurd (false≢true (sym (barred (x .side) (x .name) ds) ∙ e))
+      go mark e = absurd (false≢true (sym (barred (x .side) (x .name) ds) ∙ e))
+
+  -- what a need came to
+  need-deed : (s : Side) (a : ℕ) (σ : State) → deed (whole-of need s a) σ ≡ copied-if (not (σ .flags a .flag s)) s
+  need-deed s a σ = go (σ .flags a .flag s) refl
+    where
+      go : (b : Bool) → σ .flags a .flag s ≡ b → deed (whole-of need s a) σ ≡ copied-if (not b) s
+      go true e = ap (λ (r : Deed × Flags). r .0) (flag-set s (σ .flags a) e)
+      go false e = ap (λ (r : Deed × Flags). r .0) (flag-clear s (σ .flags a) e)
 
   pub asks-all : {k : Stage} {ch : List Bool} {n : Progress} → Stages plan cs k ch n → Asked k n
   asks-all begins = refl
   asks-all (calls h) = asks-all h
   asks-all (enters h) = asks-all h
-  asks-all (needs {s = s} {a} {n = n} h) = ap (_∷_ (event (need s a) (n .state))) (asks-all h)
-  asks-all (marks {s = s} {a} {n = n} h) = ap (_∷_ (event (mark s a) (n .state))) (asks-all h)
-  asks-all (needs-first {s = s} {a} {n = n} h) = ap (_∷_ (event (need s a) (n .state))) (asks-all h)
-  asks-all (marks-then {s = s} {a} {n = n} h) = ap (_∷_ (event (mark s a) (n .state))) (asks-all h)
+  asks-all (needs {s = s} {a} {n = n} h) = λ i. record { action = whole-of need s a; deed = need-deed s a (n .state) i } ∷ asks-all h i
+  asks-all (marks {s = s} {a} {n = n} h) = ap (_∷_ (event (whole-of mark s a) (n .state))) (asks-all h)
+  asks-all (needs-first {s = s} {a} {n = n} h) = λ i. record { action = whole-of need s a; deed = need-deed s a (n .state) i } ∷ asks-all h i
+  asks-all (marks-then {s = s} {a} {n = n} h) = ap (_∷_ (event (whole-of mark s a) (n .state))) (asks-all h)
   asks-all (acts {p = p} {x = x} {n = n} h) = permitted-asks (p .declarations) x (n .state) (n .history) (permitted-now x (judged h)) ∙ asks-all h
   asks-all (branches h) = asks-all h
   asks-all (loops h) = asks-all h

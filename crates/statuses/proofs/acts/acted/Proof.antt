@@ -1,6 +1,6 @@
 -- `acted` meets its contract. The measure is the set that is left to do, as a number.
 use mathlib.Core.Path.{refl}
-use Rattle.format.specs.Plans.{side-of}
+use Rattle.format.specs.Plans.{side-of, verb-of}
 use Rattle.statuses.specs.Inner.Sets.{touched-met, touched-after}
 use Rattle.statuses.proofs.Moves.{Moving, moving-none, moving-all, moving-more}
 use borrow.Author.Needs.{needs}
@@ -8,7 +8,7 @@ use Rattle.statuses.proofs.acts.acted.Statement.{statement}
 use Rattle.statuses.proofs.acts.acted.Tie as tie
 
 abbrev Inv-loop : tie.InvT-loop
-Inv-loop kind side k set₀ low₀ todo₀ set low todo = Moving (touched-after kind (side-of side)) (touched-met kind (side-of side)) k (record { set = todo₀; low = low₀ }) set low todo
+Inv-loop kind side k set₀ low₀ todo₀ set low todo = Moving (touched-after (verb-of kind) (side-of side)) (touched-met (verb-of kind) (side-of side)) k (record { set = todo₀; low = low₀ }) set low todo
 
 abbrev μ-loop : tie.MeasureT-loop
 μ-loop kind side k set₀ low₀ todo₀ set low todo = todo
