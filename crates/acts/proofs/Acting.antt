@@ -214,7 +214,7 @@ module _ {layout : Layout} {t : Side} {s : Stored} {own others latest : List ℕ
   copy-follows x z low (Done s′) own′ m = (
     fine-source z refl low (λ c. refl) (m .0),
     as-deed (with-verb copy t x) (moves (other t) t) (σ .flags) refl (same-flags x (σ .flags))
-    (moved-cells z refl (σ .flags) m (ap (λ (z : Stored). z .flags) (m .2) ∙ h .own-flags) (ap (λ (z : Stored). z .«other_flags») (m .2) ∙ h .others-flags) refl refl refl refl),
+        (moved-cells z refl (σ .flags) m (ap (λ (z : Stored). z .flags) (m .2) ∙ h .own-flags) (ap (λ (z : Stored). z .«other_flags») (m .2) ∙ h .others-flags) refl refl refl refl),
   )
   copy-follows x z low (Unmet c) own′ (f, m, e) = (stale-source z refl low (λ c. refl) f m, e, refl)
 
@@ -283,10 +283,10 @@ module _ {layout : Layout} {t : Side} {s : Stored} {own others latest : List ℕ
           let one : a < n = rw (z .array) at (z .range .one) in (
             fine-source z refl low met-source (m .0),
             as-deed y (moves (other t) t) both (ap (λ (r : Deed × Flags). r .0) (flag-clear t (σ .flags (x .name)) (own-flag false e))) both-set
-            (moved-cells z refl both m
-            (b .own n (λ b. σ .flags b .flag t) one (ap (λ (z : Stored). z .flags) (m .2) ∙ h .own-flags) ∙ mask-same n _ _ (λ d i. flag-both t d))
-            (b .others n (λ b. σ .flags b .flag (other t)) one (ap (λ (z : Stored). z .«other_flags») (m .2) ∙ h .others-flags) ∙ mask-same n _ _ (λ d i. flag-both (other t) d))
-            (b .reads) (b .writes) (b .moved) (b .known)),
+                (moved-cells z refl both m
+                (b .own n (λ b. σ .flags b .flag t) one (ap (λ (z : Stored). z .flags) (m .2) ∙ h .own-flags) ∙ mask-same n _ _ (λ d i. flag-both t d))
+                (b .others n (λ b. σ .flags b .flag (other t)) one (ap (λ (z : Stored). z .«other_flags») (m .2) ∙ h .others-flags) ∙ mask-same n _ _ (λ d i. flag-both (other t) d))
+                (b .reads) (b .writes) (b .moved) (b .known)),
           )
       need-follows (Done s′) (Unmet c) own′ m b = absurd b
       need-follows (Unmet c) (Done s″) own′ m b = absurd b

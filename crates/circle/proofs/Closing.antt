@@ -79,8 +79,8 @@ module _ (f : List ℕ) (accepted : judged f ≡ Accepted) (small : size (expans
           ending = x;
           ends = h;
           holds = m;
-          current = λ c l. let w = d .current k (h .run) c l in one-current (w .0) c l (w .1);
-          reads = d .reads;
+          current = λ c l. let w = d .always-current k (h .run) c l in one-current (w .0) c l (w .1);
+          reads = d .reads-latest;
         }
 
   -- a refusal before the run is 19 or 20
@@ -106,7 +106,7 @@ module _ (f : List ℕ) (accepted : judged f ≡ Accepted) (small : size (expans
         kept = λ w. kept (r .config) finished h m;
         done = λ v. adds (r .config) h (ap (λ (x : Lent). x .tally .moved) m);
       }
-      go (stopped n c) h m u = absurd (file-demand3 f accepted (choices-of choices) .unstuck (r .config) n c h)
+      go (stopped n c) h m u = absurd (file-demand3 f accepted (choices-of choices) .never-stuck (r .config) n c h)
       go (out-of-choices n) h m u = record {
         unstopped = λ n c v. let z : _≡_ {A = ℕ} 0 1 = cc in omega arith;
         ended = λ w. subst DoneOrSpent (sym u) refl;

@@ -19,7 +19,7 @@ file-demand3 f accepted = demand3 (declared-plan-of f) (accepted-rules f .0 acce
 
 module _ (f : List ℕ) (accepted : judged f ≡ Accepted) where
   unstuck : Stuck (expansion-of f) → ⊥
-  unstuck s = file-demand3 f accepted (s .choices) .unstuck (s .config) (s .number) (s .cell) (s .ends)
+  unstuck s = file-demand3 f accepted (s .choices) .never-stuck (s .config) (s .number) (s .cell) (s .ends)
 
   expansion-accepted : Answers (expansion-of f) Accepted
   expansion-accepted = accepted-iff (expansion-of f) .1 unstuck

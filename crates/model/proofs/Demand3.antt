@@ -74,10 +74,10 @@ module _ (plan : DeclaredPlan) (cs : List Bool) (ok : Accepts plan) where
 
 pub demand3 : Claim3
 demand3 plan ok cs = record {
-  unstuck = unstuck plan cs ok;
-  reads = reads plan cs ok;
-  current = current plan cs ok;
-  moved = λ k e. moved plan cs ok (at-end plan cs ok e);
+  never-stuck = unstuck plan cs ok;
+  reads-latest = reads plan cs ok;
+  always-current = current plan cs ok;
+  moves-exactly = λ k e. moved plan cs ok (at-end plan cs ok e);
 }
 
 pub moves-add : ClaimMoved

@@ -70,4 +70,4 @@ unfolding covers sum-before
 history = refl
 
 pub moved : Moves plan [] last
-moved = demand3 plan accepted [] .moved last ends-finished
+moved = demand3 plan accepted [] .moves-exactly last ends-finished

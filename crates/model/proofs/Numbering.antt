@@ -11,7 +11,7 @@ use borrow.Author.Tests.{ltb-true, ltb-false, lt-ltb, leb-true, leb-false, le-le
 use Rattle.model.specs.Lists.{sum, sum-before, how-many}
 use Rattle.model.specs.Sides.{Layout, cell-count, span-of, in-span}
 use Rattle.model.specs.Records.{whole, Action, covers, cover-count}
-use Rattle.model.specs.Claims.{ClaimCells}
+use Rattle.model.specs.Claims.{ClaimCells, ClaimCovers}
 use Rattle.model.specs.Inner.Holders.{holder, array-of}
 use Rattle.model.proofs.Booleans.{and-out, and-in}
 
@@ -140,3 +140,14 @@ module _ (layout : Layout) where
 
 pub one-array : ClaimCells
 one-array layout c h = (array-of layout c, own-span layout c h, λ b e. sym (span-own layout b c e))
+
+pub these-cells : ClaimCovers
+these-cells layout x w h = (
+  ranged-count layout x w h,
+  λ c.
+      let first = span-of layout (x .name) .first in
+      let range = covers-range layout x c w h in (
+        λ e. let p = and-out (leb (first + x .p) c) (ltb c (first + x .q)) (sym range ∙ e) in (leb-true (first + x .p) c (p .0), ltb-true c (first + x .q) (p .1)),
+        λ p. range ∙ and-in (leb (first + x .p) c) (ltb c (first + x .q)) (le-leb (first + x .p) c (p .0)) (lt-ltb c (first + x .q) (p .1)),
+      ),
+)

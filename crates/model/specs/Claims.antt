@@ -1,14 +1,14 @@
 -- What is proved of these definitions: each theorem that a reader relies on, by name, with the place of its proof.
-use Prim.Native.Nat.{ℕ, suc, _<_}
+use Prim.Native.Nat.{ℕ, suc, _+_, _-_, _≤_, _<_}
 use mathlib.Core.Path.{_≡_}
 use mathlib.Core.Logic.{_↔_}
-use mathlib.Core.Bool.{Bool, true}
+use mathlib.Core.Bool.{Bool, true, false}
 use mathlib.Core.List.{List}
 use Rattle.model.specs.declared.Verdict.{Verdict}
 use Rattle.model.specs.declared.Verdict.the-variants.{Accepted}
 use Rattle.model.specs.Lists.{any}
 use Rattle.model.specs.Sides.{Side, at, Layout, cell-count, span-of, in-span}
-use Rattle.model.specs.Records.{Action}
+use Rattle.model.specs.Records.{whole, Action, covers, cover-count}
 use Rattle.model.specs.Blocks.{Block, Plan}
 use Rattle.model.specs.Runs.{Config, Ending, finished, Run, Ends, tally}
 use Rattle.model.specs.Check.{Carried, Answers, Stuck}
@@ -21,6 +21,13 @@ use Rattle.model.specs.Cases.{twelve, AllAnswer, StopsFirstAt2, nearly}
 abbrev pub ClaimCells : Type 0
 ClaimCells = (layout : Layout) (c : ℕ) → c < cell-count layout →
     (a : ℕ) × (in-span (span-of layout a) c ≡ true) × ((b : ℕ) → in-span (span-of layout b) c ≡ true → b ≡ a)
+
+-- CLAIM (proofs/Numbering, `these-cells`): "cells P to Q − 1 of the array, P < Q ≤ its length": a record that names cells covers these and no others
+abbrev pub ClaimCovers : Type 0
+ClaimCovers = (layout : Layout) (x : Action) →
+    let these = span-of layout (x .name) in
+    whole (x .verb) ≡ false → x .q ≤ these .length →
+    (cover-count layout x ≡ x .q - x .p) × ((c : ℕ) → (covers layout x c ≡ true) ↔ ((these .first + x .p ≤ c) × (c < these .first + x .q)))
 
 -- CLAIM (proofs/Stamps, `latest-tracked`): in every carried-on run a cell's latest stamp is that of its latest write
 abbrev pub ClaimLatest : Type 0

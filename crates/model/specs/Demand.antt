@@ -10,7 +10,7 @@ use Rattle.model.specs.Records.{read, write, need, mark, same-verb, whol
 use Rattle.model.specs.Effects.{Deed, nothing, moves}
 use Rattle.model.specs.Blocks.{Block, act}
 use Rattle.model.specs.Runs.{Event, Config, finished, stopped, Run, Ends, tally}
-use Rattle.model.specs.Judging.{Mode, R, W, RW, reads, writes, Declaration, Pass, Body0, DeclaredPlan, pass-of, Way}
+use Rattle.model.specs.Judging.{Mode, R, W, RW, R-or-RW, W-or-RW, Declaration, Pass, Body0, DeclaredPlan, pass-of, Way}
 use Rattle.model.specs.Expanding.{expansion}
 
 -- "The latest write of a cell is the last executed write record that covers it, and its stamp is that record's k; before any, the stamp is 0."
@@ -67,11 +67,11 @@ asked (e ∷ l) = cond (whole (e .action .verb)) (e ∷ asked l) (asked l)
 
 -- a declared write of array a: W or RW
 abbrev pub declares-write : ℕ → Made → Bool
-declares-write a d = eqb (d .declaration .array) a && writes (d .declaration .mode)
+declares-write a d = eqb (d .declaration .array) a && W-or-RW (d .declaration .mode)
 
 -- R or RW of array a on side s
 abbrev pub declares-read : ℕ → Side → Made → Bool
-declares-read a s d = eqb (d .declaration .array) a && (reads (d .declaration .mode) && same-side (d .declaration .side) s)
+declares-read a s d = eqb (d .declaration .array) a && (R-or-RW (d .declaration .mode) && same-side (d .declaration .side) s)
 
 -- "An array moves at each need of it that copies": how often array a does
 abbrev pub moves-of : ℕ → List Made → ℕ
@@ -110,12 +110,12 @@ pub record Moves (plan : DeclaredPlan) (cs : List Bool) (k : Config) : Type 0 wh
 -- Demand 3: "a single claim about a plan and the whole list of choices"
 pub record Demand3 (plan : DeclaredPlan) (cs : List Bool) : Type 0 where
   -- no record gets stuck
-  pub unstuck : (k : Config) (r c : ℕ) → Ends (expansion plan) cs k (stopped r c) → ⊥
+  pub never-stuck : (k : Config) (r c : ℕ) → Ends (expansion plan) cs k (stopped r c) → ⊥
   -- every read gets the stamp of the latest write ("A read gets its cells' copies on its side")
-  pub reads : (k : Config) → Run (expansion plan) cs k → (r : ℕ) (x : Action) (b : Block) → k .left ≡ act r x b → x .verb ≡ read →
+  pub reads-latest : (k : Config) → Run (expansion plan) cs k → (r : ℕ) (x : Action) (b : Block) → k .left ≡ act r x b → x .verb ≡ read →
       (c : ℕ) → c < cell-count (plan .layout) → covers (plan .layout) x c ≡ true → k .state .cell c .held (x .side) ≡ at (latest-write (plan .layout) (k .history) c)
   -- at each moment each cell is current on some side: a copy of it holds the stamp of the latest write
-  pub current : (k : Config) → Run (expansion plan) cs k → (c : ℕ) → c < cell-count (plan .layout) →
+  pub always-current : (k : Config) → Run (expansion plan) cs k → (c : ℕ) → c < cell-count (plan .layout) →
       (s : Side) × (k .state .cell c .held s ≡ at (latest-write (plan .layout) (k .history) c))
   -- in a finished run each array moves exactly when it must between two declared writes
-  pub moved : (k : Config) → Ends (expansion plan) cs k finished → Moves plan cs k
+  pub moves-exactly : (k : Config) → Ends (expansion plan) cs k finished → Moves plan cs k

@@ -14,16 +14,16 @@ pub data Mode : Type 0 where
   R W RW : Mode
 
 -- "R or RW"
-abbrev pub reads : Mode → Bool
-reads R = true
-reads W = false
-reads RW = true
+abbrev pub R-or-RW : Mode → Bool
+R-or-RW R = true
+R-or-RW W = false
+R-or-RW RW = true
 
 -- "W or RW"
-abbrev pub writes : Mode → Bool
-writes R = false
-writes W = true
-writes RW = true
+abbrev pub W-or-RW : Mode → Bool
+W-or-RW R = false
+W-or-RW W = true
+W-or-RW RW = true
 
 -- "16 R, 17 W, 18 RW: side and array."
 pub record Declaration : Type 0 where
@@ -67,8 +67,8 @@ declared-once (d ∷ ds) = not (any (λ (e : Declaration). eqb (e .array) (d .ar
 
 -- the modes that a record of a pass needs: "A read needs R or RW of its array on its side, a write W or RW."
 abbrev pub allowed-by : Verb → Mode → Bool
-allowed-by read m = reads m
-allowed-by write m = writes m
+allowed-by read m = R-or-RW m
+allowed-by write m = W-or-RW m
 -- "Kinds 3, 4, 5 are barred."
 allowed-by copy m = false
 allowed-by need m = false

@@ -14,7 +14,7 @@ use Rattle.model.specs.declared.Verdict.the-variants.{Accepted, Refused}
 use Rattle.model.specs.Lists.{any}
 use Rattle.model.specs.Sides.{same-side}
 use Rattle.model.specs.Records.{read, write}
-use Rattle.model.specs.Judging.{Mode, R, W, RW, reads, writes, Declaration, allowed-by, declares, permits}
+use Rattle.model.specs.Judging.{Mode, R, W, RW, R-or-RW, W-or-RW, Declaration, allowed-by, declares, permits}
 use Rattle.model.proofs.Booleans.{any-append}
 use Rattle.reading.specs.declared.Fields.{Fields}
 use Rattle.model.specs.Rows.{row, first}
@@ -178,8 +178,8 @@ module _ (f : List ℕ) (e : Extent) (p : PassAt f e) where
     permits-is : 1 ≤ x .kind → x .kind ≤ 2 → permits (pass-at f (e .body) .declarations) (action-of x) ≡ permitted x kind-at side-at
     unfolding action-of
     permits-is h l = elim (ℕᴺ-discrete (x .kind) 1) [
-      | yes k ↦ rw (eq-eqb (x .kind) 1 k) (declares-at (allowed-by read) (by-kind (λ j. reads (cond (eqb j 16) R (cond (eqb j 17) W RW)) ≡ permitting x j) (rw k) (rw k) (rw k)) (rw k))
-      | no n ↦ let k : x .kind ≡ 2 = omega arith in rw (ne-eqb (x .kind) 1 n, eq-eqb (x .kind) 2 k) (declares-at (allowed-by write) (by-kind (λ j. writes (cond (eqb j 16) R (cond (eqb j 17) W RW)) ≡ permitting x j) (rw k) (rw k) (rw k)) (rw k))
+      | yes k ↦ rw (eq-eqb (x .kind) 1 k) (declares-at (allowed-by read) (by-kind (λ j. R-or-RW (cond (eqb j 16) R (cond (eqb j 17) W RW)) ≡ permitting x j) (rw k) (rw k) (rw k)) (rw k))
+      | no n ↦ let k : x .kind ≡ 2 = omega arith in rw (ne-eqb (x .kind) 1 n, eq-eqb (x .kind) 2 k) (declares-at (allowed-by write) (by-kind (λ j. W-or-RW (cond (eqb j 16) R (cond (eqb j 17) W RW)) ≡ permitting x j) (rw k) (rw k) (rw k)) (rw k))
     ]
 
   -- record i after the declarations: its numbers by the declaration of its array

@@ -12,7 +12,7 @@ use Rattle.model.specs.Sides.{Side, host, card, other, same-side, Stamp,
 use Rattle.model.specs.Records.{Verb, read, write, copy, need, mark, Action, whole-of, covers}
 use Rattle.model.specs.Effects.{Stamps, Flags, State, start, Deed, nothing, comes-to, does, effect}
 use Rattle.model.specs.Blocks.{Block, act}
-use Rattle.model.specs.Judging.{Mode, R, W, RW, reads, writes, Declaration, Pass, DeclaredPlan, pass-of, declares, permits, always-writes, Accepts}
+use Rattle.model.specs.Judging.{Mode, R, W, RW, R-or-RW, W-or-RW, Declaration, Pass, DeclaredPlan, pass-of, declares, permits, always-writes, Accepts}
 use Rattle.model.specs.Inner.Holders.{array-of}
 use Rattle.model.proofs.Needs.{flag-set, flag-clear}
 use Rattle.model.proofs.Numbering.{own-span, in-own, covers-array, covers-whole}
@@ -42,8 +42,8 @@ pub record Coherent (ds : List Declaration) (a : ℕ) (pending : Side → Bool) 
   pub flagged : (s : Side) × (v .flag s ≡ true)
   set-flags : (t : Side) → v .flag t ≡ true → Current v t ⊎ (pending t ≡ true)
   pub flags-current : undeclared ≡ true → FlagsCurrent v
-  pub readable : undeclared ≡ false → (s : Side) → declares reads s a ds ≡ true → Current v s × (v .flag s ≡ true)
-  writable : undeclared ≡ false → (s : Side) → declares writes s a ds ≡ true → v .flag (other s) ≡ false
+  pub readable : undeclared ≡ false → (s : Side) → declares R-or-RW s a ds ≡ true → Current v s × (v .flag s ≡ true)
+  writable : undeclared ≡ false → (s : Side) → declares W-or-RW s a ds ≡ true → v .flag (other s) ≡ false
 
 with-pending : {ds : List Declaration} {a : ℕ} {f g : Side → Bool} {u : Bool} {v : CellState} →
     ((t : Side) → f t ≡ true → g t ≡ true) → Coherent ds a f u v → Coherent ds a g u v
@@ -84,7 +84,7 @@ abbrev after-write : Side → ℕ → CellState → CellState
 after-write s k v = record { held = λ t. cond (same-side t s) (at k) (v .held t); latest = k; flag = v .flag }
 
 write-coherent : {ds : List Declaration} {a : ℕ} {f g : Side → Bool} {v : CellState} (s : Side) (k : ℕ) →
-    declares writes s a ds ≡ true → Coherent ds a f false v → Coherent ds a g false (after-write s k v)
+    declares W-or-RW s a ds ≡ true → Coherent ds a f false v → Coherent ds a g false (after-write s k v)
 write-coherent {v = v} s k e c = record {
   current = (s, on-side);
   flagged = c .flagged;
@@ -199,14 +199,14 @@ module _ (layout : Layout) (c : ℕ) where
     -- of the cell's own array, once it is made
     made-coherent : (m : Mode) (σ : State) → own ≡ a → Judged layout p (declaration m s a ∷ ds) b →
         (t : Side) × Current (at-cell σ) t → at-cell σ .flag s ≡ true → ((t : Side) → at-cell σ .flag t ≡ true → Current (at-cell σ) t ⊎ (always-writes layout t c b ≡ true)) →
-        (reads m ≡ true → Current (at-cell σ) s) → (writes m ≡ true → at-cell σ .flag (other s) ≡ false) → CoherentIn p b ds σ
+        (R-or-RW m ≡ true → Current (at-cell σ) s) → (W-or-RW m ≡ true → at-cell σ .flag (other s) ≡ false) → CoherentIn p b ds σ
     made-coherent m σ q j now set f r w = record {
       current = now;
       flagged = (s, set);
       set-flags = f;
       flags-current = λ u. absurd (true≢false (sym u ∙ rw q (once-first (declaration m s a) ds (j .once))));
-      readable = λ u t e. let g = j .rules .0 .sole reads t (rw q at e) in rw (← g .1) (r (g .0), set);
-      writable = λ u t e. let g = j .rules .0 .sole writes t (rw q at e) in rw (← g .1) (w (g .0));
+      readable = λ u t e. let g = j .rules .0 .sole R-or-RW t (rw q at e) in rw (← g .1) (r (g .0), set);
+      writable = λ u t e. let g = j .rules .0 .sole W-or-RW t (rw q at e) in rw (← g .1) (w (g .0));
     }
 
     needed : c < cell-count layout → (m : Mode) (σ : State) → CoherentIn p b (declaration m s a ∷ ds) σ → own ≡ a → Needed (at-cell (effect layout (whole-of need s a) σ)) s
@@ -256,7 +256,7 @@ module _ (layout : Layout) (c : ℕ) where
 
     -- W, or the mark of an RW
     mark-coherent : (m : Mode) (σ : State) → Judged layout p (declaration m s a ∷ ds) b →
-        (own ≡ a → Current (at-cell σ) s ⊎ (always-writes layout s c b ≡ true)) → (own ≡ a → reads m ≡ true → Current (at-cell σ) s) →
+        (own ≡ a → Current (at-cell σ) s ⊎ (always-writes layout s c b ≡ true)) → (own ≡ a → R-or-RW m ≡ true → Current (at-cell σ) s) →
         CoherentIn p b (declaration m s a ∷ ds) σ → CoherentIn p b ds (effect layout (whole-of mark s a) σ)
     mark-coherent m σ j on-side r k = go (own-or-other a)
       where
@@ -279,7 +279,7 @@ module _ (layout : Layout) (c : ℕ) where
       CoherentIn p b [] (effect layout x σ)
   act-coherent p r b x σ e k = go (x .verb) e k
     where
-      written : (z : Bool) → covers layout (as-verb write x) c ≡ z → declares writes (x .side) (x .name) (p .declarations) ≡ true →
+      written : (z : Bool) → covers layout (as-verb write x) c ≡ z → declares W-or-RW (x .side) (x .name) (p .declarations) ≡ true →
           CoherentIn p (act r (as-verb write x) b) [] σ → CoherentIn p b [] (effect layout (as-verb write x) σ)
       written true w e k = rw (write-own x σ w) (write-coherent (x .side) (suc (σ .writes)) (rw (covers-array layout (as-verb write x) c w) e) k)
       written false w e k = rw (write-other x σ w) (with-pending (λ t f. rw (w, and-false) at f) k)
@@ -298,8 +298,8 @@ module _ (layout : Layout) (c : ℕ) where
     flagged = k .flagged;
     set-flags = λ t f. inl (now t (k .set-flags t f));
     flags-current = λ u t f. now t (k .set-flags t f);
-    readable = λ u s e. absurd (true≢false (sym (declares-any reads s own (q .declarations) e) ∙ u));
-    writable = λ u s e. absurd (true≢false (sym (declares-any writes s own (q .declarations) e) ∙ u));
+    readable = λ u s e. absurd (true≢false (sym (declares-any R-or-RW s own (q .declarations) e) ∙ u));
+    writable = λ u s e. absurd (true≢false (sym (declares-any W-or-RW s own (q .declarations) e) ∙ u));
   }
     where
       now : (t : Side) → Current (at-cell σ) t ⊎ (false ≡ true) → Current (at-cell σ) t

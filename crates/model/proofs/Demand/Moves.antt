@@ -10,7 +10,7 @@ use Rattle.model.specs.Sides.{Side, host, other, same-side, Layout}
 use Rattle.model.specs.Records.{Verb, read, write, copy, need, mark, Action, whole-of}
 use Rattle.model.specs.Effects.{Flags, State, Deed, comes-to, effect}
 use Rattle.model.specs.Blocks.{Block}
-use Rattle.model.specs.Judging.{Mode, R, W, RW, reads, writes, Declaration, Pass, Body0, DeclaredPlan, permits, Accepts}
+use Rattle.model.specs.Judging.{Mode, R, W, RW, R-or-RW, W-or-RW, Declaration, Pass, Body0, DeclaredPlan, permits, Accepts}
 use Rattle.model.specs.Demand.{Made, declares-read, declares-write, moves-of, Opens, at-start, Closes, at-end}
 use Rattle.model.proofs.Needs.{flag-set, flag-clear}
 use Rattle.model.proofs.Booleans.{or-none, eqb-swap, is-not}
@@ -48,7 +48,7 @@ module _ (a : ℕ) where
 
   -- the need of a declaration of the array, if it has one, copied exactly if its flag was not set
   abbrev ExactIn : Interval → Made → Type 0
-  ExactIn i d = own d ≡ true → d .copied ≡ (reads (d .declaration .mode) && not (flags i (d .declaration .side)))
+  ExactIn i d = own d ≡ true → d .copied ≡ (R-or-RW (d .declaration .mode) && not (flags i (d .declaration .side)))
 
   abbrev Exact : List Made → Type 0
   Exact [] = Unit {0}
@@ -151,7 +151,7 @@ module _ (a : ℕ) where
   opened at-start = refl
   opened (Opens.at-write d l e) = go (own d) (d .declaration .mode) e
     where
-      go : (o : Bool) (m : Mode) → (o && writes m) ≡ true →
+      go : (o : Bool) (m : Mode) → (o && W-or-RW m) ≡ true →
           cond o (extended m (d .declaration .side) (interval-of l)) (interval-of l) ≡ interval (d .declaration .side) false
       go true R q = absurd (false≢true q)
       go true W q = refl
@@ -159,8 +159,8 @@ module _ (a : ℕ) where
       go false m q = absurd (false≢true q)
 
   -- one more declaration, no declared write of the array
-  extended-by-read : (o : Bool) (m : Mode) (s w : Side) (b : Bool) → (o && writes m) ≡ false →
-      cond o (extended m s (interval w b)) (interval w b) ≡ interval w (o && (reads m && same-side s (other w)) || b)
+  extended-by-read : (o : Bool) (m : Mode) (s w : Side) (b : Bool) → (o && W-or-RW m) ≡ false →
+      cond o (extended m s (interval w b)) (interval w b) ≡ interval w (o && (R-or-RW m && same-side s (other w)) || b)
   extended-by-read true R s w b e = refl
   extended-by-read true W s w b e = absurd (true≢false e)
   extended-by-read true RW s w b e = absurd (true≢false e)
@@ -177,9 +177,9 @@ module _ (a : ℕ) where
       moved true false true e = e
       moved true false false e = ap suc e
 
-      go : (o : Bool) → (o ≡ true → d .copied ≡ (reads (d .declaration .mode) && not (flags (interval w b) (d .declaration .side)))) →
-          cond (o && d .copied) (suc k) k ≡ cond (o && (reads (d .declaration .mode) && not (same-side (d .declaration .side) w)) || b) 1 0
-      go true g = rw (g refl) (moved (reads (d .declaration .mode)) (same-side (d .declaration .side) w) b e)
+      go : (o : Bool) → (o ≡ true → d .copied ≡ (R-or-RW (d .declaration .mode) && not (flags (interval w b) (d .declaration .side)))) →
+          cond (o && d .copied) (suc k) k ≡ cond (o && (R-or-RW (d .declaration .mode) && not (same-side (d .declaration .side) w)) || b) 1 0
+      go true g = rw (g refl) (moved (R-or-RW (d .declaration .mode)) (same-side (d .declaration .side) w) b e)
       go false g = e
 
   -- declarations of an interval after the one that begins it, none of them a declared write of the array
