@@ -29,7 +29,7 @@ star-map h {u} (more {w = w} r s) = more (h u w r) (star-map h s)
 
 -- two cells of one array that each record of a block covers both or neither
 module _ (layout : Layout) (c d : ℕ) (own : array-of layout c ≡ array-of layout d) where
-  abbrev Alike : Block → Type 0
+  abbrev Alike : Block Action → Type 0
   Alike done = Unit {0}
   Alike (act k x b) = (covers-cell layout x c ≡ covers-cell layout x d) × Alike b
   Alike (branch k x y b) = Alike x × Alike y × Alike b
@@ -43,7 +43,7 @@ module _ (layout : Layout) (c d : ℕ) (own : array-of layout c ≡ array-of lay
     met-alike : met-in layout c x u ≡ met-in layout d x u
     met-alike = rw e
 
-  goes-alike : (b : Block) → Alike b → (u v : Status) → Goes layout c b u v → Goes layout d b u v
+  goes-alike : (b : Block Action) → Alike b → (u v : Status) → Goes layout c b u v → Goes layout d b u v
   goes-alike done a u v g = g
   goes-alike (act k x b) a u v g = rw (status-alike x (a .0) u) at (goes-alike b (a .1) (status-after layout c x u) v g)
   goes-alike (branch k x y b) a u v g = (
@@ -53,7 +53,7 @@ module _ (layout : Layout) (c d : ℕ) (own : array-of layout c ≡ array-of lay
   )
   goes-alike (loop k x b) a u v g = (g .0, star-map (goes-alike x (a .0)) (g .1), goes-alike b (a .1) (g .0) v (g .2))
 
-  stops-alike : (b : Block) → Alike b → (u : Status) (r : ℕ) → Stops layout c b u r → Stops layout d b u r
+  stops-alike : (b : Block Action) → Alike b → (u : Status) (r : ℕ) → Stops layout c b u r → Stops layout d b u r
   stops-alike done a u r s = s
   stops-alike (act k x b) a u r (inl s) = inl (s .0, sym (met-alike x (a .0) u) ∙ s .1)
   stops-alike (act k x b) a u r (inr s) = inr (rw (status-alike x (a .0) u) at (stops-alike b (a .1) (status-after layout c x u) r s))
@@ -76,7 +76,7 @@ module _ (f : List ℕ) (bodies : ℕ) (w : Plain f bodies) (array offset : ℕ)
   own : array-of (layout-of f) (cell-at f array (suc offset)) ≡ array-of (layout-of f) (cell-at f array offset)
   own = array-from (layout-of f) array _ (omega arith) (omega arith) ∙ sym (array-from (layout-of f) array _ (omega arith) (omega arith))
 
-  abbrev These : Block → Type 0
+  abbrev These : Block Action → Type 0
   These = Alike (layout-of f) (cell-at f array (suc offset)) (cell-at f array offset) own
 
   block-alike : (n r end : ℕ) → Walkable f r end → end ≤ r + n → end ≤ record-count f → These (block-between f r end)

@@ -97,7 +97,7 @@ module _ (f : List ℕ) where
         (fit-declaration f x _ _ _ (record { arrays-are = refl; bodies-are = refl; size-is = refl }) h k ∙ fits) .0
 
 -- the blocks made of the records of body b of a declared plan, from record `low` on, record by record; `most` levels are allowed in all
-module _ (f : List ℕ) (kind : kind-of f ≡ 1) (b low most : ℕ) (enough : 8 ≤ most) (block : ℕ → ℕ → Block) where
+module _ (f : List ℕ) (kind : kind-of f ≡ 1) (b low most : ℕ) (enough : 8 ≤ most) (block : ℕ → ℕ → Block Action) where
   record Parted : Type 0 where
     none : (r end : ℕ) → end ≤ r → block r end ≡ Block.done
     branch : (depth r end : ℕ) → r < end → Good f b depth r end → fields-at f r .kind ≡ 6
@@ -193,8 +193,8 @@ module _ (f : List ℕ) (w : Facts f) (kind : kind-of f ≡ 1) where
   body0-parted : Parted f kind 0 0 16 (omega arith) (λ r end. expand passes (body0-between f r end))
   body0-parted = record {
     none = λ r end h. ap (expand passes) (body0-none f r end h);
-    branch = λ depth r end m g k. (0, ap (expand passes) (body0-branch f r end m (walk-of g) (fields-at f r) refl k));
-    loop = λ depth r end m g k. (0, ap (expand passes) (body0-loop f r end m (walk-of g) (fields-at f r) refl k));
+    branch = λ depth r end m g k. (r, ap (expand passes) (body0-branch f r end m (walk-of g) (fields-at f r) refl k));
+    loop = λ depth r end m g k. (r, ap (expand passes) (body0-loop f r end m (walk-of g) (fields-at f r) refl k));
     other = λ levels depth r end d e h m g j k rest.
         let called = pass-of passes (fields-at f r .p) in
         let fit = and-out (all (λ (c : Declaration). ltb (c .array) (length (lengths-of f))) (called .declarations)) (block-fits (layout-of f) 8 (called .body)) (all-called called-fits refl passes (fields-at f r .p) passes-fit) in

@@ -7,6 +7,7 @@ use native.Mathlib.Omega.{arith}
 use lib.Dec.{ltb}
 use lib.ListN.{length}
 use Rattle.model.specs.Sides.{Side, Layout}
+use Rattle.model.specs.Records.{Action}
 use Rattle.model.specs.Blocks.{Block, size, _then_, numbered}
 use Rattle.model.specs.Judging.{Mode, R, W, RW, Declaration}
 use Rattle.model.specs.Expanding.{given, declared}
@@ -15,7 +16,7 @@ use Rattle.files.specs.Bounds.{all, action-fits, block-fits}
 use Rattle.files.proofs.Blocks.{numbered-size}
 
 module _ (layout : Layout) where
-  pub more-levels : (b : Block) (n m : ℕ) → n ≤ m → block-fits layout n b ≡ true → block-fits layout m b ≡ true
+  pub more-levels : (b : Block Action) (n m : ℕ) → n ≤ m → block-fits layout n b ≡ true → block-fits layout m b ≡ true
   more-levels Block.done n m h e = refl
   more-levels (Block.act r x b) n m h e =
       let fit = and-out (action-fits layout x) (block-fits layout n b) e in
@@ -33,8 +34,8 @@ module _ (layout : Layout) where
       and-in _ _ (more-levels x n m (omega arith) (fit .0)) (more-levels b (suc n) (suc m) h (fit .1))
 
   -- a branch and a loop that stand inside `depth` others, where `most` levels are allowed in all
-  module _ (most depth : ℕ) (inside : depth < most) {r : ℕ} {a x b : Block} where
-    pub branch-fits : {y : Block} → a ≡ Block.branch r x y b → (levels : ℕ) → depth + levels ≡ most → ((n : ℕ) → depth + 1 + n ≡ most → block-fits layout n x ≡ true) → ((n : ℕ) → depth + 1 + n ≡ most → block-fits layout n y ≡ true)
+  module _ (most depth : ℕ) (inside : depth < most) {r : ℕ} {a x b : Block Action} where
+    pub branch-fits : {y : Block Action} → a ≡ Block.branch r x y b → (levels : ℕ) → depth + levels ≡ most → ((n : ℕ) → depth + 1 + n ≡ most → block-fits layout n x ≡ true) → ((n : ℕ) → depth + 1 + n ≡ most → block-fits layout n y ≡ true)
         → block-fits layout levels b ≡ true → block-fits layout levels a ≡ true
     branch-fits e zero d one two rest = absurd (omega arith)
     branch-fits e (suc n) d one two rest = rw e (and-in _ _ (one n (omega arith)) (and-in _ _ (two n (omega arith)) rest))
@@ -44,7 +45,7 @@ module _ (layout : Layout) where
     loop-fits e zero d one rest = absurd (omega arith)
     loop-fits e (suc n) d one rest = rw e (and-in _ _ (one n (omega arith)) rest)
 
-  pub then-fits : (a b : Block) (n : ℕ) → block-fits layout n a ≡ true → block-fits layout n b ≡ true → block-fits layout n (a then b) ≡ true
+  pub then-fits : (a b : Block Action) (n : ℕ) → block-fits layout n a ≡ true → block-fits layout n b ≡ true → block-fits layout n (a then b) ≡ true
   then-fits Block.done b n e h = h
   then-fits (Block.act r x a) b n e h =
       let fit = and-out (action-fits layout x) (block-fits layout n a) e in
@@ -60,18 +61,18 @@ module _ (layout : Layout) where
       and-in _ _ (fit .0) (then-fits a b (suc n) (fit .1) h)
 
   -- "R gives need; W gives mark; RW gives need, mark"
-  given-fits : (m : Mode) (s : Side) (a : ℕ) (b : Block) (n : ℕ) → ltb a (length (layout .lengths)) ≡ true → block-fits layout n b ≡ true → block-fits layout n (given m s a b) ≡ true
+  given-fits : (m : Mode) (s : Side) (a : ℕ) (b : Block Action) (n : ℕ) → ltb a (length (layout .lengths)) ≡ true → block-fits layout n b ≡ true → block-fits layout n (given m s a b) ≡ true
   given-fits R s a b n e h = rw e h
   given-fits W s a b n e h = rw e h
   given-fits RW s a b n e h = rw e h
 
-  pub declared-fits : (ds : List Declaration) (b : Block) (n : ℕ) → all (λ (d : Declaration). ltb (d .array) (length (layout .lengths))) ds ≡ true → block-fits layout n b ≡ true → block-fits layout n (declared ds b) ≡ true
+  pub declared-fits : (ds : List Declaration) (b : Block Action) (n : ℕ) → all (λ (d : Declaration). ltb (d .array) (length (layout .lengths))) ds ≡ true → block-fits layout n b ≡ true → block-fits layout n (declared ds b) ≡ true
   declared-fits [] b n e h = h
   declared-fits (d ∷ ds) b n e h =
       let fit = and-out (ltb (d .array) (length (layout .lengths))) (all (λ (d : Declaration). ltb (d .array) (length (layout .lengths))) ds) e in
       given-fits (d .mode) (d .side) (d .array) (declared ds b) n (fit .0) (declared-fits ds b n (fit .1) h)
 
-  pub numbered-fits : (r : ℕ) (b : Block) (n : ℕ) → block-fits layout n (numbered r b) ≡ block-fits layout n b
+  pub numbered-fits : (r : ℕ) (b : Block Action) (n : ℕ) → block-fits layout n (numbered r b) ≡ block-fits layout n b
   numbered-fits r Block.done n = refl
   numbered-fits r (Block.act q x b) n = rw (numbered-fits (suc r) b n)
   numbered-fits r (Block.branch q x y b) zero = refl
@@ -80,7 +81,7 @@ module _ (layout : Layout) where
   numbered-fits r (Block.loop q x b) (suc n) = rw (numbered-fits (suc r) x n, numbered-fits (suc r + size x) b (suc n))
 
 -- a block that is numbered twice
-pub numbered-again : (r s : ℕ) (b : Block) → numbered r (numbered s b) ≡ numbered r b
+pub numbered-again : (r s : ℕ) (b : Block Action) → numbered r (numbered s b) ≡ numbered r b
 numbered-again r s Block.done = refl
 numbered-again r s (Block.act q x b) = rw (numbered-again (suc r) (suc s) b)
 numbered-again r s (Block.branch q x y b) =

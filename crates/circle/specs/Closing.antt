@@ -51,7 +51,7 @@ pub record Kept (f choices : List ℕ) (before after : Lent) : Type 0 where
   pub current : (c : ℕ) → c < cell-count (layout-of f) →
       (getD (after .host) c 0 ≡ getD (after .latest) c 0) ⊎ (getD (after .card) c 0 ≡ getD (after .latest) c 0)
   -- each read that the run came to got, in each of its cells, the stamp of the latest write
-  pub reads : (k : Config) → Run (expansion-of f) (choices-of choices) k → (r : ℕ) (x : Action) (b : Block) → k .left ≡ act r x b → x .verb ≡ read →
+  pub reads : (k : Config) → Run (expansion-of f) (choices-of choices) k → (r : ℕ) (x : Action) (b : Block Action) → k .left ≡ act r x b → x .verb ≡ read →
       (c : ℕ) → c < cell-count (layout-of f) → covers (layout-of f) x c ≡ true → k .state .cell c .held (x .side) ≡ at (latest-write (layout-of f) (k .history) c)
 
 -- what is claimed of a run of the expansion's file, whatever the choices and the lent memories

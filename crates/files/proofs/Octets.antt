@@ -11,19 +11,18 @@ use Rattle.model.specs.Lists.{All, sum}
 use Rattle.model.specs.Sides.{Side, host, card, side-number, span-of, Layout, cell-count}
 use Rattle.model.specs.Records.{Verb, read, write, copy, need, mark, kind, whole, Action}
 use Rattle.model.specs.Blocks.{Block, size, Plan}
-use Rattle.model.specs.Judging.{Mode, R, W, RW, Declaration, Pass, Body0, DeclaredPlan}
+use Rattle.model.specs.Judging.{Mode, R, W, RW, Declaration, Pass, DeclaredPlan}
 use Rattle.model.proofs.Booleans.{and-out}
 use Rattle.model.proofs.Numbering.{array-ends}
 use Rattle.reading.specs.declared.Fields.{Fields}
 use Rattle.sums.specs.Sums.{check-bytes}
 use Rattle.reading.specs.Bytes.{between}
-use Rattle.files.specs.Files.{u16-bytes, record-bytes, fields, action-fields, block-fields, size0, body0-fields, mode-kind, declaration-fields, Body, entry-bytes, joined, front, file, plain-file, pass-body, declared-file}
-use Rattle.files.specs.Bounds.{all, arrays-fit, cells-fit, action-fits, block-fits, body0-fits, plain-fits, pass-fits, passes-size, declared-fits}
+use Rattle.files.specs.Files.{u16-bytes, record-bytes, fields, action-fields, call-fields, fields-of, block-fields, mode-kind, declaration-fields, Body, entry-bytes, joined, front, file, plain-file, pass-body, declared-file}
+use Rattle.files.specs.Bounds.{all, arrays-fit, cells-fit, action-fits, nested-within, block-fits, plain-fits, pass-fits, passes-size, declared-fits}
 use Rattle.files.specs.Claims.{Bytes}
 use Rattle.files.proofs.Files.Places.{body-size}
 use Rattle.files.proofs.Files.Accepting.{within-bounds}
-use Rattle.files.proofs.Files.Records.{fields-count}
-use Rattle.files.proofs.Files.Calling.{fields-count0}
+use Rattle.files.proofs.Files.Records.{count-of, fields-count}
 use Rattle.files.proofs.Files.Declaring.{pass-count}
 
 module _ {A : Type 0} (P : A → Type 0) where
@@ -116,6 +115,28 @@ cells-small false p q n h e =
     let below = leb-true q n (k .1) in
     (omega (arith, ltb-true p q (k .0)), omega arith)
 
+-- the records of a block whose leaves are small
+small-of : {A : Type 0} (leaf : A → Fields) (fits : A → Bool) → ((x : A) → fits x ≡ true → Small (leaf x)) →
+    (x : Block A) (levels : ℕ) → nested-within fits levels x ≡ true → size x ≤ 1024 → All Small (fields-of leaf x)
+small-of leaf fits one Block.done levels e h = tt
+small-of leaf fits one (Block.act _ x t) levels e h =
+    let fit = and-out (fits x) (nested-within fits levels t) e in
+    (one x (fit .0), small-of leaf fits one t levels (fit .1) (omega arith))
+small-of leaf fits one (Block.branch _ x y t) zero e h = absurd (false≢true e)
+small-of leaf fits one (Block.branch _ x y t) (suc levels) e h =
+    let fit = and-out (nested-within fits levels x) (nested-within fits levels y && nested-within fits (suc levels) t) e in
+    let fit′ = and-out (nested-within fits levels y) (nested-within fits (suc levels) t) (fit .1) in (
+      small 6 0 0 (size x) (size y) (omega arith) (omega arith) (omega arith) (omega arith) (omega arith),
+      all-append Small (fields-of leaf x) (fields-of leaf y ++ fields-of leaf t) (small-of leaf fits one x levels (fit .0) (omega arith))
+          (all-append Small (fields-of leaf y) (fields-of leaf t) (small-of leaf fits one y levels (fit′ .0) (omega arith)) (small-of leaf fits one t (suc levels) (fit′ .1) (omega arith))),
+    )
+small-of leaf fits one (Block.loop _ x t) zero e h = absurd (false≢true e)
+small-of leaf fits one (Block.loop _ x t) (suc levels) e h =
+    let fit = and-out (nested-within fits levels x) (nested-within fits (suc levels) t) e in (
+      small 7 0 0 (size x) 0 (omega arith) (omega arith) (omega arith) (omega arith) (omega arith),
+      all-append Small (fields-of leaf x) (fields-of leaf t) (small-of leaf fits one x levels (fit .0) (omega arith)) (small-of leaf fits one t (suc levels) (fit .1) (omega arith)),
+    )
+
 module _ (layout : Layout) (few : length (layout .lengths) ≤ 32) (total : cell-count layout ≤ 4096) where
   array-small : (kind : ℕ) (s : Side) (a p q : ℕ) → kind < 256 → ltb a (length (layout .lengths)) ≡ true → p < 65536 → q < 65536 → Small (fields kind (side-number s) a p q)
   array-small kind s a p q k e = let h : a < length (layout .lengths) = ltb-true _ _ e in small kind (side-number s) a p q k (side-small s) (omega arith)
@@ -126,25 +147,8 @@ module _ (layout : Layout) (few : length (layout .lengths) ≤ 32) (total : cell
       let c = cells-small (whole (x .verb)) (x .p) (x .q) (span-of layout (x .name) .length) (omega (arith, length-small layout (x .name))) (h .1) in
       array-small (kind (x .verb)) (x .side) (x .name) (x .p) (x .q) (kind-small (x .verb)) (h .0) (c .0) (c .1)
 
-  block-small : (x : Block) (levels : ℕ) → block-fits layout levels x ≡ true → size x ≤ 1024 → All Small (block-fields x)
-  block-small Block.done levels e h = tt
-  block-small (Block.act _ x t) levels e h =
-      let fit = and-out (action-fits layout x) (block-fits layout levels t) e in
-      (action-small x (fit .0), block-small t levels (fit .1) (omega arith))
-  block-small (Block.branch _ x y t) zero e h = absurd (false≢true e)
-  block-small (Block.branch _ x y t) (suc levels) e h =
-      let fit = and-out (block-fits layout levels x) (block-fits layout levels y && block-fits layout (suc levels) t) e in
-      let fit′ = and-out (block-fits layout levels y) (block-fits layout (suc levels) t) (fit .1) in (
-        small 6 0 0 (size x) (size y) (omega arith) (omega arith) (omega arith) (omega arith) (omega arith),
-        all-append Small (block-fields x) (block-fields y ++ block-fields t) (block-small x levels (fit .0) (omega arith))
-            (all-append Small (block-fields y) (block-fields t) (block-small y levels (fit′ .0) (omega arith)) (block-small t (suc levels) (fit′ .1) (omega arith))),
-      )
-  block-small (Block.loop _ x t) zero e h = absurd (false≢true e)
-  block-small (Block.loop _ x t) (suc levels) e h =
-      let fit = and-out (block-fits layout levels x) (block-fits layout (suc levels) t) e in (
-        small 7 0 0 (size x) 0 (omega arith) (omega arith) (omega arith) (omega arith) (omega arith),
-        all-append Small (block-fields x) (block-fields t) (block-small x levels (fit .0) (omega arith)) (block-small t (suc levels) (fit .1) (omega arith)),
-      )
+  block-small : (x : Block Action) (levels : ℕ) → block-fits layout levels x ≡ true → size x ≤ 1024 → All Small (block-fields x)
+  block-small = small-of action-fields (action-fits layout) action-small
 
   declarations-small : (ds : List Declaration) → all (λ (d : Declaration). ltb (d .array) (length (layout .lengths))) ds ≡ true → All Small (map declaration-fields ds)
   declarations-small [] e = tt
@@ -167,26 +171,8 @@ module _ (layout : Layout) (few : length (layout .lengths) ≤ 32) (total : cell
       } in
       (told, passes-told ps others (omega arith))
 
-body0-small : (last : ℕ) → last ≤ 31 → (x : Body0) (levels : ℕ) → body0-fits last levels x ≡ true → size0 x ≤ 1024 → All Small (body0-fields x)
-body0-small last l Body0.done levels e h = tt
-body0-small last l (Body0.call b t) levels e h =
-    let fit = and-out (between 1 last b) (body0-fits last levels t) e in
-    let bound = within-bounds 1 last b (fit .0) in
-    (small 8 0 0 b 0 (omega arith) (omega arith) (omega arith) (omega arith) (omega arith), body0-small last l t levels (fit .1) (omega arith))
-body0-small last l (Body0.branch x y t) zero e h = absurd (false≢true e)
-body0-small last l (Body0.branch x y t) (suc levels) e h =
-    let fit = and-out (body0-fits last levels x) (body0-fits last levels y && body0-fits last (suc levels) t) e in
-    let fit′ = and-out (body0-fits last levels y) (body0-fits last (suc levels) t) (fit .1) in (
-      small 6 0 0 (size0 x) (size0 y) (omega arith) (omega arith) (omega arith) (omega arith) (omega arith),
-      all-append Small (body0-fields x) (body0-fields y ++ body0-fields t) (body0-small last l x levels (fit .0) (omega arith))
-          (all-append Small (body0-fields y) (body0-fields t) (body0-small last l y levels (fit′ .0) (omega arith)) (body0-small last l t (suc levels) (fit′ .1) (omega arith))),
-    )
-body0-small last l (Body0.loop x t) zero e h = absurd (false≢true e)
-body0-small last l (Body0.loop x t) (suc levels) e h =
-    let fit = and-out (body0-fits last levels x) (body0-fits last (suc levels) t) e in (
-      small 7 0 0 (size0 x) 0 (omega arith) (omega arith) (omega arith) (omega arith) (omega arith),
-      all-append Small (body0-fields x) (body0-fields t) (body0-small last l x levels (fit .0) (omega arith)) (body0-small last l t (suc levels) (fit .1) (omega arith)),
-    )
+body0-small : (last : ℕ) → last ≤ 31 → (x : Block ℕ) (levels : ℕ) → nested-within (between 1 last) levels x ≡ true → size x ≤ 1024 → All Small (fields-of call-fields x)
+body0-small last l = small-of call-fields (between 1 last) (λ b e. let h = within-bounds 1 last b e in small 8 0 0 b 0 (omega arith) (omega arith) (omega arith) (omega (arith, h .1)) (omega arith))
 
 arrays-small : (layout : Layout) → arrays-fit layout ≡ true → (length (layout .lengths) ≤ 32) × (cell-count layout ≤ 4096)
 arrays-small layout e =
@@ -212,15 +198,15 @@ pub declared-bytes : (plan : DeclaredPlan) → declared-fits plan ≡ true → B
 declared-bytes plan fits =
     let (arrays-in, h) = and-out (arrays-fit (plan .layout)) _ fits in
     let (few-passes, h′) = and-out (leb (length (plan .passes)) 31) _ h in
-    let (body0-in, h″) = and-out (body0-fits (length (plan .passes)) 8 (plan .body0)) _ h′ in
+    let (body0-in, h″) = and-out (nested-within (between 1 (length (plan .passes))) 8 (plan .body0)) _ h′ in
     let (passes-in, few-records) = and-out (all (pass-fits (plan .layout)) (plan .passes)) _ h″ in
     let (few, total) = arrays-small (plan .layout) arrays-in in
     let last : length (plan .passes) ≤ 31 = leb-true _ _ few-passes in
-    let sized : size0 (plan .body0) + passes-size (plan .passes) ≤ 1024 = leb-true _ _ few-records in
+    let sized : size (plan .body0) + passes-size (plan .passes) ≤ 1024 = leb-true _ _ few-records in
     file-bytes 1 (plan .layout) _ (omega arith) (omega arith) (omega (arith, length-map (plan .passes) pass-body)) (lengths-small (plan .layout .lengths) total) (
       record {
         few-declarations = omega arith;
-        few-records = omega (arith, fields-count0 (plan .body0));
+        few-records = omega (arith, count-of call-fields (plan .body0));
         small = body0-small (length (plan .passes)) last (plan .body0) 8 body0-in (omega arith);
       },
       passes-told (plan .layout) few total (plan .passes) passes-in (omega arith),

@@ -12,19 +12,19 @@ use Rattle.model.specs.declared.Verdict.the-variants.{Accepted}
 use Rattle.model.specs.Blocks.{size, Plan}
 use Rattle.model.specs.Judging.{DeclaredPlan}
 use Rattle.model.proofs.Booleans.{and-out, and-in}
-use Rattle.reading.specs.Bytes.{kind-of, body-count, table, records-in, first-record, record-count, fields-at}
+use Rattle.reading.specs.Bytes.{kind-of, body-count, table, records-in, first-record, record-count, fields-at, between}
 use Rattle.rules.specs.Rules.{allowed, deepest}
 use Rattle.records.specs.Records.{records-rows}
 use Rattle.format.specs.Opening.{opening}
 use Rattle.format.specs.Plans.{pass-at, plan-of, declared-plan-of}
-use Rattle.files.specs.Files.{block-fields, size0, body0-fields, Body, plain-file, pass-body, declared-file}
-use Rattle.files.specs.Bounds.{all, arrays-fit, block-fits, body0-fits, plain-fits, pass-fits, passes-size, declared-fits, numbered-passes, numbered-plan, numbered-declared}
+use Rattle.files.specs.Files.{call-fields, fields-of, block-fields, Body, plain-file, pass-body, declared-file}
+use Rattle.files.specs.Bounds.{all, arrays-fit, nested-within, block-fits, plain-fits, pass-fits, passes-size, declared-fits, numbered-passes, numbered-plan, numbered-declared}
 use Rattle.files.proofs.Files.Holding.{Along, none, more, Holds, head-of, tail-of, down, table-is}
 use Rattle.files.proofs.Files.Places.{Placed, Laid, laid}
 use Rattle.files.proofs.Files.Accepting.{Passes, opens}
-use Rattle.files.proofs.Files.Records.{fields-count, block-walks}
-use Rattle.files.proofs.Files.Reading.{block-reads}
-use Rattle.files.proofs.Files.Calling.{fields-count0, body0-walks, body0-reads}
+use Rattle.files.proofs.Files.Records.{count-of, fields-count, block-walks}
+use Rattle.files.proofs.Files.Reading.{block-reads, body0-reads}
+use Rattle.files.proofs.Files.Calling.{body0-walks}
 use Rattle.files.proofs.Files.Declaring.{passes-count, passes-entries, passes-walk, passes-read, numbered-count}
 
 -- a plain plan
@@ -77,7 +77,7 @@ module _ (plan : Plan) where
 -- a declared plan
 module _ (plan : DeclaredPlan) where
   abbrev first-body : Body
-  first-body = record { declarations = 0; records = body0-fields (plan .body0) }
+  first-body = record { declarations = 0; records = fields-of call-fields (plan .body0) }
 
   abbrev bodies : List Body
   bodies = first-body ∷ map pass-body (plan .passes)
@@ -97,26 +97,26 @@ module _ (plan : DeclaredPlan) where
   placed-passes : Along (Placed declared) 1 (map pass-body (plan .passes))
   placed-passes = tail-of (declared-laid .placed)
 
-  held0 : Holds (fields-at declared) 0 (body0-fields (plan .body0))
+  held0 : Holds (fields-at declared) 0 (fields-of call-fields (plan .body0))
   held0 = rw (declared-laid .start-is) at (placed0 .held)
 
   -- the passes begin after body 0
-  passes-start : first-record declared 1 ≡ 0 + size0 (plan .body0)
-  passes-start = rw (declared-laid .start-is, fields-count0 (plan .body0)) at (placed0 .next)
+  passes-start : first-record declared 1 ≡ 0 + size (plan .body0)
+  passes-start = rw (declared-laid .start-is, count-of call-fields (plan .body0)) at (placed0 .next)
 
   counted-bodies : body-count declared ≡ suc (length (plan .passes))
   counted-bodies = rw (length-map (plan .passes) pass-body) at (declared-laid .body-count-is)
 
-  body0-records : body0-fits (length (plan .passes)) 8 (plan .body0) ≡ true → Passes (records-rows declared 0)
+  body0-records : nested-within (between 1 (length (plan .passes))) 8 (plan .body0) ≡ true → Passes (records-rows declared 0)
   unfolding records-rows deepest allowed
   body0-records fits =
       let deep : deepest declared ≡ 7 = rw (declared-laid .kind-is) in
       rw (passes-start, declared-laid .start-is)
-      (body0-walks declared (length (plan .passes)) counted-bodies (λ r x e. rw (declared-laid .kind-is, e)) (plan .body0) 8 0 0 fits (omega arith) held0 (records-in declared 0))
+      (body0-walks declared (length (plan .passes)) counted-bodies (λ r x e. rw (declared-laid .kind-is, e)) (plan .body0) 8 0 0 fits (omega arith) (omega arith) held0 (records-in declared 0))
 
-  passes-back : table (λ b. pass-at declared (suc b)) (body-count declared - 1) ≡ numbered-passes (size0 (plan .body0)) (plan .passes)
+  passes-back : table (λ b. pass-at declared (suc b)) (body-count declared - 1) ≡ numbered-passes (size (plan .body0)) (plan .passes)
   passes-back =
-      let r = size0 (plan .body0) in
+      let r = size (plan .body0) in
       let count : body-count declared - 1 ≡ length (numbered-passes r (plan .passes)) = omega (arith, counted-bodies, numbered-count (plan .passes) r) in
       let start : first-record declared 1 ≡ r = rw zero-add at passes-start in
       rw count (table-is (λ b. pass-at declared (suc b)) (numbered-passes r (plan .passes)) (down (passes-read declared (plan .passes) 1 r start placed-passes)))
@@ -126,14 +126,14 @@ module _ (plan : DeclaredPlan) where
   declared-round-trip fits =
       let (arrays-in, h) = and-out (arrays-fit (plan .layout)) _ fits in
       let (few-passes, h′) = and-out (leb (length (plan .passes)) 31) _ h in
-      let (body0-in, h″) = and-out (body0-fits (length (plan .passes)) 8 (plan .body0)) _ h′ in
+      let (body0-in, h″) = and-out (nested-within (between 1 (length (plan .passes))) 8 (plan .body0)) _ h′ in
       let (passes-in, few-records) = and-out (all (pass-fits (plan .layout)) (plan .passes)) _ h″ in
       let few-bodies : length bodies ≤ 32 = omega (arith, leb-true (length (plan .passes)) 31 few-passes, length-map (plan .passes) pass-body) in
-      let few : size0 (plan .body0) + passes-size (plan .passes) ≤ 1024 = leb-true _ _ few-records in
-      let records-are : records-in declared 0 ≡ size0 (plan .body0) = placed0 .entry .records-are ∙ fields-count0 (plan .body0) in
-      let read-back = rw zero-add at (body0-reads (fields-at declared) (plan .body0) (size0 (plan .body0)) 0 (omega arith) held0) in (
+      let few : size (plan .body0) + passes-size (plan .passes) ≤ 1024 = leb-true _ _ few-records in
+      let records-are : records-in declared 0 ≡ size (plan .body0) = placed0 .entry .records-are ∙ count-of call-fields (plan .body0) in
+      let read-back = rw zero-add at (body0-reads (fields-at declared) (plan .body0) (size (plan .body0)) 0 (omega arith) held0) in (
         opens declared 1 (plan .layout) bodies declared-laid refl arrays-in (and-in _ _ (le-leb 1 (length bodies) (omega arith)) (le-leb (length bodies) 32 few-bodies)) refl
-            (omega (arith, fields-count0 (plan .body0), passes-count (plan .passes)))
+            (omega (arith, count-of call-fields (plan .body0), passes-count (plan .passes)))
             (more (record { declared = omega arith; none-first = refl }) (passes-entries (plan .passes) 1 refl))
             (more (body0-records body0-in)
             (passes-walk declared (plan .layout) (declared-laid .kind-is) (declared-laid .arrayed) (plan .passes) 1 refl passes-in placed-passes)),

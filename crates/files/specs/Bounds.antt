@@ -7,9 +7,8 @@ use lib.Dec.{ltb, leb, eqb}
 use Rattle.model.specs.Sides.{span-of, Layout, cell-count}
 use Rattle.model.specs.Records.{whole, Action}
 use Rattle.model.specs.Blocks.{Block, size, numbered, Plan}
-use Rattle.model.specs.Judging.{Declaration, Pass, Body0, DeclaredPlan}
+use Rattle.model.specs.Judging.{Declaration, Pass, DeclaredPlan}
 use Rattle.reading.specs.Bytes.{between}
-use Rattle.files.specs.Files.{size0}
 
 -- whether each of the list passes the test
 abbrev pub all : {A : Type 0} → (A → Bool) → List A → Bool
@@ -28,23 +27,18 @@ cells-fit layout x = cond (whole (x .verb)) (eqb (x .p) 0 && eqb (x .q) 0) (ltb 
 abbrev pub action-fits : Layout → Action → Bool
 action-fits layout x = ltb (x .name) (length (layout .lengths)) && cells-fit layout x
 
--- a block in which branches and loops stand at most `levels` deep: 16 in a plain plan ("inside at most 15 others"), 8 in a body of a declared plan
-abbrev pub block-fits : Layout → ℕ → Block → Bool
-block-fits layout levels Block.done = true
-block-fits layout levels (Block.act r x b) = action-fits layout x && block-fits layout levels b
-block-fits layout zero (Block.branch r x y b) = false
-block-fits layout (suc levels) (Block.branch r x y b) = block-fits layout levels x && (block-fits layout levels y && block-fits layout (suc levels) b)
-block-fits layout zero (Block.loop r x b) = false
-block-fits layout (suc levels) (Block.loop r x b) = block-fits layout levels x && block-fits layout (suc levels) b
+-- a block in which branches and loops stand at most `levels` deep, and whose other records pass the test
+abbrev pub nested-within : {A : Type 0} → (A → Bool) → ℕ → Block A → Bool
+nested-within fits levels Block.done = true
+nested-within fits levels (Block.act r x b) = fits x && nested-within fits levels b
+nested-within fits zero (Block.branch r x y b) = false
+nested-within fits (suc levels) (Block.branch r x y b) = nested-within fits levels x && (nested-within fits levels y && nested-within fits (suc levels) b)
+nested-within fits zero (Block.loop r x b) = false
+nested-within fits (suc levels) (Block.loop r x b) = nested-within fits levels x && nested-within fits (suc levels) b
 
--- the same of body 0, whose calls are of bodies "1 to the last"
-abbrev pub body0-fits : ℕ → ℕ → Body0 → Bool
-body0-fits last levels Body0.done = true
-body0-fits last levels (Body0.call b t) = between 1 last b && body0-fits last levels t
-body0-fits last zero (Body0.branch x y t) = false
-body0-fits last (suc levels) (Body0.branch x y t) = body0-fits last levels x && (body0-fits last levels y && body0-fits last (suc levels) t)
-body0-fits last zero (Body0.loop x t) = false
-body0-fits last (suc levels) (Body0.loop x t) = body0-fits last levels x && body0-fits last (suc levels) t
+-- of actions: 16 levels in a plain plan ("inside at most 15 others"), 8 in a body of a declared plan
+abbrev pub block-fits : Layout → ℕ → Block Action → Bool
+block-fits layout levels b = nested-within (action-fits layout) levels b
 
 -- a plain plan: "records .. together at most 1,024"
 abbrev pub plain-fits : Plan → Bool
@@ -70,8 +64,8 @@ abbrev pub declared-fits : DeclaredPlan → Bool
 declared-fits plan =
     arrays-fit (plan .layout)
     && (leb (length (plan .passes)) 31
-    && (body0-fits (length (plan .passes)) 8 (plan .body0)
-    && (all (pass-fits (plan .layout)) (plan .passes) && leb (size0 (plan .body0) + passes-size (plan .passes)) 1024)))
+    && (nested-within (between 1 (length (plan .passes))) 8 (plan .body0)
+    && (all (pass-fits (plan .layout)) (plan .passes) && leb (size (plan .body0) + passes-size (plan .passes)) 1024)))
 
 -- "Records are numbered from 0 through all bodies in order": the passes with their records numbered from r on
 abbrev pub numbered-passes : ℕ → List Pass → List Pass
@@ -85,4 +79,4 @@ numbered-plan plan = record { layout = plan .layout; body = numbered 0 (plan .bo
 
 -- a declared plan as its file numbers its records: body 0 first, then the passes
 abbrev pub numbered-declared : DeclaredPlan → DeclaredPlan
-numbered-declared plan = record { layout = plan .layout; body0 = plan .body0; passes = numbered-passes (size0 (plan .body0)) (plan .passes) }
+numbered-declared plan = record { layout = plan .layout; body0 = numbered 0 (plan .body0); passes = numbered-passes (size (plan .body0)) (plan .passes) }

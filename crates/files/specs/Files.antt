@@ -1,11 +1,11 @@
 -- From a plan back to the bytes of its file (document 01, 'The plan file').
-use Prim.Native.Nat.{ℕ, zero, suc, _+_, _/_, _%_}
+use Prim.Native.Nat.{ℕ, zero, _/_, _%_}
 use mathlib.Core.List.{List, [], _∷_, _++_, map}
 use lib.ListN.{length}
 use Rattle.model.specs.Sides.{side-number, Layout}
 use Rattle.model.specs.Records.{kind, Action}
 use Rattle.model.specs.Blocks.{Block, size, Plan}
-use Rattle.model.specs.Judging.{Mode, R, W, RW, Declaration, Pass, Body0, DeclaredPlan}
+use Rattle.model.specs.Judging.{Mode, R, W, RW, Declaration, Pass, DeclaredPlan}
 use Rattle.reading.specs.declared.Fields.{Fields}
 use Rattle.sums.specs.Sums.{check-bytes}
 
@@ -25,26 +25,20 @@ fields kind side array p q = record { kind = kind; side = side; array = array; z
 abbrev pub action-fields : Action → Fields
 action-fields x = fields (kind (x .verb)) (side-number (x .side)) (x .name) (x .p) (x .q)
 
--- "6 branch: P records of the first arm, then Q of the second. 7 loop: P records."
-abbrev pub block-fields : Block → List Fields
-block-fields Block.done = []
-block-fields (Block.act r x b) = action-fields x ∷ block-fields b
-block-fields (Block.branch r x y b) = fields 6 0 0 (size x) (size y) ∷ (block-fields x ++ (block-fields y ++ block-fields b))
-block-fields (Block.loop r x b) = fields 7 0 0 (size x) 0 ∷ (block-fields x ++ block-fields b)
-
--- how many records a part of body 0 has
-abbrev pub size0 : Body0 → ℕ
-size0 Body0.done = 0
-size0 (Body0.call b t) = suc (size0 t)
-size0 (Body0.branch x y t) = suc (size0 x + size0 y + size0 t)
-size0 (Body0.loop x t) = suc (size0 x + size0 t)
-
 -- "8 call: P is a body"
-abbrev pub body0-fields : Body0 → List Fields
-body0-fields Body0.done = []
-body0-fields (Body0.call b t) = fields 8 0 0 b 0 ∷ body0-fields t
-body0-fields (Body0.branch x y t) = fields 6 0 0 (size0 x) (size0 y) ∷ (body0-fields x ++ (body0-fields y ++ body0-fields t))
-body0-fields (Body0.loop x t) = fields 7 0 0 (size0 x) 0 ∷ (body0-fields x ++ body0-fields t)
+abbrev pub call-fields : ℕ → Fields
+call-fields b = fields 8 0 0 b 0
+
+-- "6 branch: P records of the first arm, then Q of the second. 7 loop: P records."; `leaf` gives the fields of any other record
+abbrev pub fields-of : {A : Type 0} → (A → Fields) → Block A → List Fields
+fields-of leaf Block.done = []
+fields-of leaf (Block.act r x b) = leaf x ∷ fields-of leaf b
+fields-of leaf (Block.branch r x y b) = fields 6 0 0 (size x) (size y) ∷ (fields-of leaf x ++ (fields-of leaf y ++ fields-of leaf b))
+fields-of leaf (Block.loop r x b) = fields 7 0 0 (size x) 0 ∷ (fields-of leaf x ++ fields-of leaf b)
+
+-- the records of a plain body or a pass
+abbrev pub block-fields : Block Action → List Fields
+block-fields b = fields-of action-fields b
 
 -- "16 R, 17 W, 18 RW"
 abbrev pub mode-kind : Mode → ℕ
@@ -91,4 +85,4 @@ pass-body p = record { declarations = length (p .declarations); records = map de
 
 -- the file of a declared plan
 abbrev pub declared-file : DeclaredPlan → List ℕ
-declared-file plan = file 1 (plan .layout) (record { declarations = 0; records = body0-fields (plan .body0) } ∷ map pass-body (plan .passes))
+declared-file plan = file 1 (plan .layout) (record { declarations = 0; records = fields-of call-fields (plan .body0) } ∷ map pass-body (plan .passes))

@@ -1,45 +1,35 @@
 -- The plan that a file is, for those who walk its records: the block of the records r up to `end`, and the part of body 0, record by record.
 use mathlib.Core.Path.{_≡_, refl, sym, _∙_}
-use mathlib.Core.Bool.{true, cond}
+use mathlib.Core.Bool.{true}
 use mathlib.Core.List.{List}
 use Prim.Native.Nat.{ℕ, zero, suc, _+_, _≤_, _<_}
 use native.Mathlib.Decide.{decLt}
 use native.Mathlib.Nat.{add-zero, zero-add}
 use native.Mathlib.Omega.{arith}
-use lib.Dec.{ltb, eqb}
 use borrow.Author.Tests.{lt-ltb, le-ltb, eq-eqb, ne-eqb}
 use Rattle.model.specs.Blocks.{Block}
-use Rattle.model.specs.Judging.{Body0}
 use Rattle.reading.specs.declared.Fields.{Fields}
 use Rattle.reading.specs.Bytes.{kind-of, body-count, records-in, declarations-in, sizes-of, first-record, record-count, fields-at, first-arm, second-arm}
 use Rattle.rules.specs.Rules.{allowed}
-use Rattle.format.specs.Plans.{action-of, block-of, body0-of, pass-at, plan-of, declared-plan-of}
+use Rattle.format.specs.Plans.{action-of, call-of, block-of, pass-at, plan-of, declared-plan-of}
 use Rattle.format.specs.Inner.Walks.{Good, Walkable, block-between, body0-between}
 use Rattle.reading.proofs.Ranges.{of-range, out-of-range}
 use Rattle.reading.proofs.Tables.{first-zero, next-record}
 use Rattle.format.proofs.Walking.{Facts, good-parts, steps}
 
--- what is made of the records r up to `end`: of a branch, a loop and any other record with what is made of its arms and of the rest
-module _ {T : Type 0} (done : T) (branch : ℕ → T → T → T → T) (loop : ℕ → T → T → T) (leaf : ℕ → T → T) (f : List ℕ) where
-  made : ℕ → ℕ → ℕ → T
-  made zero r end = done
-  made (suc n) r end =
-      let second = r + 1 + first-arm (fields-at f r) in
-      let next = second + second-arm (fields-at f r) in
-      cond (ltb r end)
-      (cond (eqb (fields-at f r .kind) 6) (branch r (made n (r + 1) second) (made n second next) (made n next end))
-      (cond (eqb (fields-at f r .kind) 7) (loop r (made n (r + 1) second) (made n next end))
-      (leaf r (made n next end))))
-      done
+-- the block of the records r up to `end`, of whatever leaves
+module _ {A : Type 0} (leaf : Fields → A) (f : List ℕ) where
+  abbrev made : ℕ → ℕ → ℕ → Block A
+  made n r end = block-of leaf n (fields-at f) r end
 
-  made-end : (n r end : ℕ) → end ≤ r → made n r end ≡ done
-  unfolding made
+  made-end : (n r end : ℕ) → end ≤ r → made n r end ≡ Block.done
+  unfolding block-of
   made-end zero r end h = refl
   made-end (suc n) r end h = rw (le-ltb r end h)
 
   -- any fuel that is at least the number of records makes the same
   made-fuel : (n m r end : ℕ) → Walkable f r end → end ≤ r + n → end ≤ r + m → made n r end ≡ made m r end
-  unfolding made
+  unfolding block-of
   made-fuel zero m r end w k l = sym (made-end m r end (omega arith))
   made-fuel (suc n) zero r end w k l = made-end (suc n) r end (omega arith)
   made-fuel (suc n) (suc m) r end w k l = elim (decLt r end) [
@@ -63,79 +53,60 @@ module _ {T : Type 0} (done : T) (branch : ℕ → T → T → T → T) (loop : 
     rest-fuel : (n : ℕ) → end ≤ r + suc n → made n next end ≡ made end next end
     rest-fuel n l = let s = steps f r end h w (fields-at f r) refl in made-fuel n end next end (s .rest) (omega (arith, s .inside)) (omega arith)
 
-    made-branch : (n : ℕ) → end ≤ r + n → fields-at f r .kind ≡ 6 → made n r end ≡ branch r (made second (r + 1) second) (made next second next) (made end next end)
-    unfolding made
+    made-branch : (n : ℕ) → end ≤ r + n → fields-at f r .kind ≡ 6 → made n r end ≡ Block.branch r (made second (r + 1) second) (made next second next) (made end next end)
+    unfolding block-of
     made-branch zero l k = absurd (omega arith)
     made-branch (suc n) l k = rw (lt-ltb r end h, eq-eqb (fields-at f r .kind) 6 k, one-fuel n l, two-fuel n l, rest-fuel n l)
 
-    made-loop : (n : ℕ) → end ≤ r + n → fields-at f r .kind ≡ 7 → made n r end ≡ loop r (made second (r + 1) second) (made end next end)
-    unfolding made
+    made-loop : (n : ℕ) → end ≤ r + n → fields-at f r .kind ≡ 7 → made n r end ≡ Block.loop r (made second (r + 1) second) (made end next end)
+    unfolding block-of
     made-loop zero l k = absurd (omega arith)
     made-loop (suc n) l k = rw (lt-ltb r end h, ne-eqb (fields-at f r .kind) 6 (λ z. omega arith), eq-eqb (fields-at f r .kind) 7 k, one-fuel n l, rest-fuel n l)
 
-    made-leaf : (n : ℕ) → end ≤ r + n → (fields-at f r .kind ≡ 6 → ⊥) → (fields-at f r .kind ≡ 7 → ⊥) → made n r end ≡ leaf r (made end next end)
-    unfolding made
+    made-leaf : (n : ℕ) → end ≤ r + n → (fields-at f r .kind ≡ 6 → ⊥) → (fields-at f r .kind ≡ 7 → ⊥) → made n r end ≡ Block.act r (leaf (fields-at f r)) (made end next end)
+    unfolding block-of
     made-leaf zero l j k = absurd (omega arith)
     made-leaf (suc n) l j k = rw (lt-ltb r end h, ne-eqb (fields-at f r .kind) 6 j, ne-eqb (fields-at f r .kind) 7 k, rest-fuel n l)
 
--- the block of a plain body or a pass
 module _ (f : List ℕ) where
-  block-leaf : ℕ → Block → Block
-  block-leaf r t = Block.act r (action-of (fields-at f r)) t
-
-  block-made : (n r end : ℕ) → block-of n (fields-at f) r end ≡ made Block.done Block.branch Block.loop block-leaf f n r end
-  unfolding block-of made block-leaf
-  block-made zero r end = refl
-  block-made (suc n) r end = simp (block-made n)
-
-  between-made : (r end : ℕ) → block-between f r end ≡ made Block.done Block.branch Block.loop block-leaf f end r end
+  -- of actions: a plain body or a pass
+  pub block-any : (fuel r end : ℕ) → Walkable f r end → end ≤ r + fuel → block-of action-of fuel (fields-at f) r end ≡ block-between f r end
   unfolding block-between
-  between-made r end = block-made end r end
-
-  pub block-any : (fuel r end : ℕ) → Walkable f r end → end ≤ r + fuel → block-of fuel (fields-at f) r end ≡ block-between f r end
-  block-any fuel r end w l = block-made fuel r end ∙ made-fuel _ _ _ _ f fuel end r end w l (omega arith) ∙ sym (between-made r end)
+  block-any fuel r end w l = made-fuel action-of f fuel end r end w l (omega arith)
 
   pub block-none : (r end : ℕ) → end ≤ r → block-between f r end ≡ Block.done
-  block-none r end l = between-made r end ∙ made-end _ _ _ _ f end r end l
+  unfolding block-between
+  block-none r end l = made-end action-of f end r end l
+
+  -- of calls: a part of body 0
+  pub body0-none : (r end : ℕ) → end ≤ r → body0-between f r end ≡ Block.done
+  unfolding body0-between
+  body0-none r end l = made-end call-of f end r end l
 
   module _ (r end : ℕ) (h : r < end) (w : Walkable f r end) (x : Fields) (e : x ≡ fields-at f r) where
     pub block-branch : x .kind ≡ 6 → block-between f r end ≡ Block.branch r (block-between f (r + 1) (r + 1 + first-arm x)) (block-between f (r + 1 + first-arm x) (r + 1 + first-arm x + second-arm x)) (block-between f (r + 1 + first-arm x + second-arm x) end)
-    block-branch k = rw e (simp between-made (made-branch _ _ _ _ f r end h w end (omega arith) (rw e at k)))
+    unfolding block-between
+    block-branch k = rw e (made-branch action-of f r end h w end (omega arith) (rw e at k))
 
     pub block-loop : x .kind ≡ 7 → block-between f r end ≡ Block.loop r (block-between f (r + 1) (r + 1 + first-arm x)) (block-between f (r + 1 + first-arm x + second-arm x) end)
-    block-loop k = rw e (simp between-made (made-loop _ _ _ _ f r end h w end (omega arith) (rw e at k)))
+    unfolding block-between
+    block-loop k = rw e (made-loop action-of f r end h w end (omega arith) (rw e at k))
 
     pub block-act : (x .kind ≡ 6 → ⊥) → (x .kind ≡ 7 → ⊥) → block-between f r end ≡ Block.act r (action-of x) (block-between f (r + 1 + first-arm x + second-arm x) end)
-    unfolding block-leaf
-    block-act j k = rw e (simp between-made (made-leaf _ _ _ _ f r end h w end (omega arith) (rw e at j) (rw e at k)))
+    unfolding block-between
+    block-act j k = rw e (made-leaf action-of f r end h w end (omega arith) (rw e at j) (rw e at k))
 
--- the part of body 0 of a declared plan
-module _ (f : List ℕ) where
-  call-leaf : ℕ → Body0 → Body0
-  call-leaf r t = Body0.call (fields-at f r .p) t
+    pub body0-branch : x .kind ≡ 6 → body0-between f r end ≡ Block.branch r (body0-between f (r + 1) (r + 1 + first-arm x)) (body0-between f (r + 1 + first-arm x) (r + 1 + first-arm x + second-arm x)) (body0-between f (r + 1 + first-arm x + second-arm x) end)
+    unfolding body0-between
+    body0-branch k = rw e (made-branch call-of f r end h w end (omega arith) (rw e at k))
 
-  body0-made : (n r end : ℕ) → body0-of n (fields-at f) r end ≡ made Body0.done (λ r. Body0.branch) (λ r. Body0.loop) call-leaf f n r end
-  unfolding body0-of made call-leaf
-  body0-made zero r end = refl
-  body0-made (suc n) r end = simp (body0-made n)
+    pub body0-loop : x .kind ≡ 7 → body0-between f r end ≡ Block.loop r (body0-between f (r + 1) (r + 1 + first-arm x)) (body0-between f (r + 1 + first-arm x + second-arm x) end)
+    unfolding body0-between
+    body0-loop k = rw e (made-loop call-of f r end h w end (omega arith) (rw e at k))
 
-  between0-made : (r end : ℕ) → body0-between f r end ≡ made Body0.done (λ r. Body0.branch) (λ r. Body0.loop) call-leaf f end r end
-  unfolding body0-between
-  between0-made r end = body0-made end r end
-
-  pub body0-none : (r end : ℕ) → end ≤ r → body0-between f r end ≡ Body0.done
-  body0-none r end l = between0-made r end ∙ made-end _ _ _ _ f end r end l
-
-  module _ (r end : ℕ) (h : r < end) (w : Walkable f r end) (x : Fields) (e : x ≡ fields-at f r) where
-    pub body0-branch : x .kind ≡ 6 → body0-between f r end ≡ Body0.branch (body0-between f (r + 1) (r + 1 + first-arm x)) (body0-between f (r + 1 + first-arm x) (r + 1 + first-arm x + second-arm x)) (body0-between f (r + 1 + first-arm x + second-arm x) end)
-    body0-branch k = rw e (simp between0-made (made-branch _ _ _ _ f r end h w end (omega arith) (rw e at k)))
-
-    pub body0-loop : x .kind ≡ 7 → body0-between f r end ≡ Body0.loop (body0-between f (r + 1) (r + 1 + first-arm x)) (body0-between f (r + 1 + first-arm x + second-arm x) end)
-    body0-loop k = rw e (simp between0-made (made-loop _ _ _ _ f r end h w end (omega arith) (rw e at k)))
-
-    pub body0-call : (x .kind ≡ 6 → ⊥) → (x .kind ≡ 7 → ⊥) → body0-between f r end ≡ Body0.call (x .p) (body0-between f (r + 1 + first-arm x + second-arm x) end)
-    unfolding call-leaf
-    body0-call j k = rw e (simp between0-made (made-leaf _ _ _ _ f r end h w end (omega arith) (rw e at j) (rw e at k)))
+    pub body0-call : (x .kind ≡ 6 → ⊥) → (x .kind ≡ 7 → ⊥) → body0-between f r end ≡ Block.act r (x .p) (body0-between f (r + 1 + first-arm x + second-arm x) end)
+    unfolding body0-between
+    body0-call j k = rw e (made-leaf call-of f r end h w end (omega arith) (rw e at j) (rw e at k))
 
 -- a good block is walked whatever its body and its depth
 pub walk-of : {f : List ℕ} {b depth r end : ℕ} → Good f b depth r end → Walkable f r end

@@ -6,7 +6,7 @@ use lib.Dec.{ltb, eqb}
 use Rattle.model.specs.Sides.{Side, host, card}
 use Rattle.model.specs.Records.{Verb, read, write, copy, need, mark, Action}
 use Rattle.model.specs.Blocks.{Block, Plan}
-use Rattle.model.specs.Judging.{R, W, RW, Declaration, Pass, Body0, DeclaredPlan}
+use Rattle.model.specs.Judging.{R, W, RW, Declaration, Pass, DeclaredPlan}
 use Rattle.reading.specs.declared.Fields.{Fields}
 use Rattle.reading.specs.Bytes.{body-count, table, layout-of, records-in, declarations-in, first-record, record-count, fields-at, first-arm, second-arm}
 
@@ -26,29 +26,22 @@ action-of x = record { verb = verb-of (x .kind); side = side-of (x .side); name 
 unfoldable pub declaration-of : Fields → Declaration
 declaration-of x = record { mode = cond (eqb (x .kind) 16) R (cond (eqb (x .kind) 17) W RW); side = side-of (x .side); array = x .array }
 
--- the records r up to `end` of a plain body or a pass, where record r has the fields `g r` (`fuel` is at least the number of records)
-unfoldable pub block-of : ℕ → (ℕ → Fields) → ℕ → ℕ → Block
-block-of zero g r end = Block.done
-block-of (suc fuel) g r end =
-    let second = r + 1 + first-arm (g r) in
-    let next = second + second-arm (g r) in
-    cond (ltb r end)
-    (cond (eqb (g r .kind) 6) (Block.branch r (block-of fuel g (r + 1) second) (block-of fuel g second next) (block-of fuel g next end))
-    (cond (eqb (g r .kind) 7) (Block.loop r (block-of fuel g (r + 1) second) (block-of fuel g next end))
-    (Block.act r (action-of (g r)) (block-of fuel g next end))))
-    Block.done
+-- "8 call: P is a body"
+abbrev pub call-of : Fields → ℕ
+call-of x = x .p
 
--- the same of body 0 of a declared plan: branches, loops and calls
-unfoldable pub body0-of : ℕ → (ℕ → Fields) → ℕ → ℕ → Body0
-body0-of zero g r end = Body0.done
-body0-of (suc fuel) g r end =
+-- the block of the records r up to `end`, where record r has the fields `g r`, and `leaf` says what a record is that is neither branch nor loop: an action or
+-- a call (`fuel` is at least the number of records)
+unfoldable pub block-of : {A : Type 0} → (Fields → A) → ℕ → (ℕ → Fields) → ℕ → ℕ → Block A
+block-of leaf zero g r end = Block.done
+block-of leaf (suc fuel) g r end =
     let second = r + 1 + first-arm (g r) in
     let next = second + second-arm (g r) in
     cond (ltb r end)
-    (cond (eqb (g r .kind) 6) (Body0.branch (body0-of fuel g (r + 1) second) (body0-of fuel g second next) (body0-of fuel g next end))
-    (cond (eqb (g r .kind) 7) (Body0.loop (body0-of fuel g (r + 1) second) (body0-of fuel g next end))
-    (Body0.call (g r .p) (body0-of fuel g next end))))
-    Body0.done
+    (cond (eqb (g r .kind) 6) (Block.branch r (block-of leaf fuel g (r + 1) second) (block-of leaf fuel g second next) (block-of leaf fuel g next end))
+    (cond (eqb (g r .kind) 7) (Block.loop r (block-of leaf fuel g (r + 1) second) (block-of leaf fuel g next end))
+    (Block.act r (leaf (g r)) (block-of leaf fuel g next end))))
+    Block.done
 
 -- body b as a pass: "declarations first, as many as the contents say", then its other records
 unfoldable pub pass-at : List ℕ → ℕ → Pass
@@ -57,17 +50,17 @@ pass-at f b =
     let n = declarations-in f b in
     record {
       declarations = table (λ i. declaration-of (fields-at f (r + i))) n;
-      body = block-of (records-in f b) (fields-at f) (r + n) (r + records-in f b);
+      body = block-of action-of (records-in f b) (fields-at f) (r + n) (r + records-in f b);
     }
 
 -- the plain plan of a file of kind 2
 unfoldable pub plan-of : List ℕ → Plan
-plan-of f = record { layout = layout-of f; body = block-of (record-count f) (fields-at f) 0 (record-count f) }
+plan-of f = record { layout = layout-of f; body = block-of action-of (record-count f) (fields-at f) 0 (record-count f) }
 
 -- the declared plan of a file of kind 1
 unfoldable pub declared-plan-of : List ℕ → DeclaredPlan
 declared-plan-of f = record {
   layout = layout-of f;
-  body0 = body0-of (records-in f 0) (fields-at f) 0 (records-in f 0);
+  body0 = block-of call-of (records-in f 0) (fields-at f) 0 (records-in f 0);
   passes = table (λ b. pass-at f (suc b)) (body-count f - 1);
 }

@@ -4,6 +4,7 @@ use mathlib.Core.List.{List, [], _∷_, _++_, append-assoc}
 use Prim.Native.Nat.{ℕ, _*_, _-_, _≤_}
 use lib.ListN.{length}
 use borrow.Rule.Slice.PartMut.{midOf, putMid}
+use Rattle.model.specs.Records.{Action}
 use Rattle.model.specs.Blocks.{Block, size}
 use Rattle.reading.specs.declared.Fields.{Fields}
 use Rattle.files.specs.Files.{record-bytes, block-fields, joined}
@@ -24,7 +25,7 @@ pub bytes-length : (l : List Fields) → length (bytes-of l) ≡ 8 * length l
 unfolding bytes-of
 bytes-length = joined-length record-bytes 8 (λ x. refl)
 
-pub block-bytes-length : (b : Block) → length (bytes-of (block-fields b)) ≡ 8 * size b
+pub block-bytes-length : (b : Block Action) → length (bytes-of (block-fields b)) ≡ 8 * size b
 block-bytes-length b = bytes-length (block-fields b) ∙ rw (fields-count b)
 
 pub bytes-none : (old : List ℕ) → old ≡ over (bytes-of []) old

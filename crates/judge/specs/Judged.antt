@@ -5,6 +5,7 @@ use mathlib.Core.List.{List, [], _∷_, _++_}
 use lib.Dec.{eqb}
 use Rattle.model.specs.declared.Verdict.{Verdict}
 use Rattle.model.specs.Sides.{Side, Layout, span-of}
+use Rattle.model.specs.Records.{Action}
 use Rattle.model.specs.Blocks.{Block}
 use Rattle.model.specs.Judging.{always-writes}
 use Rattle.model.specs.Rows.{Row, row, first, each}
@@ -18,7 +19,7 @@ abbrev pub kind-row : List ℕ → Row
 kind-row f = row (not (eqb (kind-of f) 1)) 11 0
 
 -- whether every way through a block writes each of n cells, from cell c on, on side s
-unfoldable pub all-written : Layout → Side → Block → ℕ → ℕ → Bool
+unfoldable pub all-written : Layout → Side → Block Action → ℕ → ℕ → Bool
 all-written layout s body c zero = true
 all-written layout s body c (suc n) = always-writes layout s c body && all-written layout s body (suc c) n
 

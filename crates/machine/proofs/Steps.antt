@@ -16,6 +16,7 @@ use Rattle.model.specs.declared.Verdict.{Verdict}
 use Rattle.model.specs.declared.Verdict.the-variants.{Accepted, Stopped, Refused}
 use Rattle.model.specs.Sides.{Layout, cell-count, span-of, host}
 use Rattle.model.specs.Effects.{effect}
+use Rattle.model.specs.Records.{Action}
 use Rattle.model.specs.Blocks.{Block, _then_}
 use Rattle.model.specs.declared.Tally.{Tally}
 use Rattle.model.specs.Runs.{Config, Ending, finished, stopped, out-of-choices, Step, step, lowest-unmet, onward, tally}
@@ -44,7 +45,7 @@ use Rattle.machine.proofs.Records.{few-arrays, spans, piece, whole-at, 
 use Rattle.places.proofs.Places.{left-into, starts-into, placed-into, into-used, settling, light}
 
 -- the step of a configuration whose parts are known
-step-at : (layout : Layout) (k : Config) (b : Block) (cs : List Bool) → k .left ≡ b → k .choices ≡ cs → step layout k ≡ step layout (config b cs (k .state) (k .history))
+step-at : (layout : Layout) (k : Config) (b : Block Action) (cs : List Bool) → k .left ≡ b → k .choices ≡ cs → step layout k ≡ step layout (config b cs (k .state) (k .history))
 step-at layout k b cs e g = λ i. step layout (config (e i) (g i) (k .state) (k .history))
 
 -- a record of the plan where a place is
@@ -150,7 +151,7 @@ module _ (f choices : List ℕ) (m : Runner) (own others latest : List ℕ) (t :
   few-arrays-here = opened-facts f (w .plain .opens) .bounds .header .arrays .1
 
   -- a branch or a test takes a choice
-  took : (c : Spot) (b : Block) → p .used < length choices → p .at ≡ next-record (k .left) →
+  took : (c : Spot) (b : Block Action) → p .used < length choices → p .at ≡ next-record (k .left) →
       step layout k ≡ Step.next (config b (choices-of (drop (suc (p .used)) choices)) (k .state) (k .history)) →
       left-of f c ≡ b → Placed f c → Starts f (c .room) → c .used ≡ p .used + 1 → Stepped (moved-to m (settled c) (m .flags) (m .others) (m .known)) own others latest t
   unfolding measure
@@ -181,7 +182,7 @@ module _ (f choices : List ℕ) (m : Runner) (own others latest : List ℕ) (t :
     abbrev part : Part f (p .depth) (p .at) (p .end)
     part = w .placed .here
 
-    abbrev behind : Block
+    abbrev behind : Block Action
     behind = rest-of f (p .room) (p .depth)
 
     abbrev then-second : ℕ

@@ -1,26 +1,28 @@
 -- Demand 3, of every plan that the judge accepts and every list of choices.
-use Prim.Native.Nat.{ℕ, _<_}
-use mathlib.Core.Path.{_≡_, refl, ap, _∙_}
-use mathlib.Core.List.{List}
+use Prim.Native.Nat.{ℕ, _+_, _<_}
+use mathlib.Core.Path.{_≡_, refl, ap, sym, _∙_}
+use mathlib.Core.List.{List, [], _∷_, _++_, map, reverseAux as onto}
 use mathlib.Core.Option.{Option, none, some}
-use mathlib.Core.Bool.{Bool, true, false≢true}
+use mathlib.Core.Bool.{Bool, true, false, cond, false≢true}
+use native.Mathlib.Omega.{arith}
 use borrow.Author.Tests.{eqb-true}
-use Rattle.model.specs.Sides.{Side, Stamp, never, at, equals, cell-count}
-use Rattle.model.specs.Records.{read, Action, covers}
+use Rattle.model.specs.Lists.{keep, chain}
+use Rattle.model.specs.Sides.{Side, Stamp, never, at, equals, cell-count, Layout}
+use Rattle.model.specs.Records.{read, whole, Action, covers}
 use Rattle.model.specs.Effects.{met}
 use Rattle.model.specs.Blocks.{Block, act}
-use Rattle.model.specs.Runs.{Config, stopped, carry, lowest-unmet, stop-or, step, Run, Ends}
-use Rattle.model.specs.Judging.{DeclaredPlan, Accepts}
+use Rattle.model.specs.Runs.{Event, Config, stopped, carry, lowest-unmet, stop-or, step, Run, Ends}
+use Rattle.model.specs.Judging.{Pass, DeclaredPlan, Accepts}
 use Rattle.model.specs.Expanding.{expansion}
-use Rattle.model.specs.Demand.{latest-write, Moves}
+use Rattle.model.specs.Demand.{latest-write, Called, Made, executed, moved-cells, Moves}
 use Rattle.model.specs.Claims.{Claim3, ClaimMoved}
 use Rattle.model.proofs.Runs.{config, carried}
 use Rattle.model.proofs.Stamps.{tracked}
 use Rattle.model.proofs.Unmet.{all-met}
-use Rattle.model.proofs.Demand.Walks.{walk-same}
-use Rattle.model.proofs.Demand.Stages.{walked, declares-all, asks-all}
+use Rattle.model.proofs.Demand.Walks.{way-same, called-same}
+use Rattle.model.proofs.Demand.Stages.{all-onto, walked, declares-all, asks-all}
 use Rattle.model.proofs.Demand.Coherence.{coherent}
-use Rattle.model.proofs.Demand.Moves.{moves-once}
+use Rattle.model.proofs.Demand.Moves.{once-from-start, once-from-write}
 use Rattle.model.proofs.Demand.Following.{Finished, follows, at-end}
 use Rattle.model.proofs.Demand.Adding.{adds-all}
 
@@ -28,11 +30,32 @@ equal-stamp : (x : Stamp) (k : ℕ) → equals x k ≡ true → x ≡ at k
 equal-stamp never k e = absurd (false≢true e)
 equal-stamp (at j) k e = ap at (eqb-true j k e)
 
+-- lists that were kept the last one first, in order
+onto-onto : {A : Type 0} (x y z : List A) → onto (onto x y) z ≡ onto y (x ++ z)
+onto-onto [] y z = refl
+onto-onto (a ∷ x) y z = onto-onto x (a ∷ y) z
+
+map-onto : {A B : Type 0} (f : A → B) (l rest : List A) → map f (onto l rest) ≡ onto (map f l) (map f rest)
+map-onto f [] rest = refl
+map-onto f (x ∷ l) rest = map-onto f l (x ∷ rest)
+
+keep-onto : {A : Type 0} (f : A → Bool) (l rest : List A) → keep f (onto l rest) ≡ onto (keep f l) (keep f rest)
+keep-onto f [] rest = refl
+keep-onto f (x ∷ l) rest = keep-onto f l (x ∷ rest) ∙ go (f x)
+  where
+    go : (b : Bool) → onto (keep f l) (cond b (x ∷ keep f rest) (keep f rest)) ≡ onto (cond b (x ∷ keep f l) (keep f l)) (keep f rest)
+    go true = refl
+    go false = refl
+
+chain-onto : {A B : Type 0} (f : A → List B) (l rest : List A) → chain f (onto l rest) ≡ onto (all-onto f l) (chain f rest)
+chain-onto f [] rest = refl
+chain-onto f (x ∷ l) rest = chain-onto f l (x ∷ rest) ∙ sym (onto-onto (f x) (all-onto f l) (chain f rest))
+
 module _ (plan : DeclaredPlan) (cs : List Bool) (ok : Accepts plan) where
   unstuck : (k : Config) (r c : ℕ) → Ends (expansion plan) cs k (stopped r c) → ⊥
   unstuck k r c e = at-end plan cs ok e
 
-  met-now : {k : Config} → Run (expansion plan) cs k → (r : ℕ) (x : Action) (b : Block) → k .left ≡ act r x b →
+  met-now : {k : Config} → Run (expansion plan) cs k → (r : ℕ) (x : Action) (b : Block Action) → k .left ≡ act r x b →
       lowest-unmet (plan .layout) x (k .state) ≡ none
   met-now {k} h r x b e = go (lowest-unmet (plan .layout) x (k .state)) refl
     where
@@ -47,7 +70,7 @@ module _ (plan : DeclaredPlan) (cs : List Bool) (ok : Accepts plan) where
       k .state .cell c .held s ≡ at (latest-write (plan .layout) (k .history) c)
   latest h s c e = e ∙ ap at (tracked (expansion plan) (carried (expansion plan) h) .latest c)
 
-  reads : (k : Config) → Run (expansion plan) cs k → (r : ℕ) (x : Action) (b : Block) → k .left ≡ act r x b → x .verb ≡ read →
+  reads : (k : Config) → Run (expansion plan) cs k → (r : ℕ) (x : Action) (b : Block Action) → k .left ≡ act r x b → x .verb ≡ read →
       (c : ℕ) → c < cell-count (plan .layout) → covers (plan .layout) x c ≡ true → k .state .cell c .held (x .side) ≡ at (latest-write (plan .layout) (k .history) c)
   reads k h r x b e v c i w =
       let m = all-met (plan .layout) x (k .state) (met-now h r x b e) c i in
@@ -62,14 +85,15 @@ module _ (plan : DeclaredPlan) (cs : List Bool) (ok : Accepts plan) where
   current k h c i = let s = coherent plan cs ok c i (follows plan cs ok h .stages) .current in (s .0, latest h (s .0) c (s .1))
 
   moved : {k : Config} → Finished plan cs (k .choices) (k .history) → Moves plan cs k
-  moved f = record {
-    passes = f .called;
+  moved {k} f = record {
+    passes = onto (f .called) [];
     calls = walked plan cs (f .stages);
-    only = λ unused ps w. walk-same (plan .passes) w (walked plan cs (f .stages)) .1;
-    made = f .made;
-    declared = declares-all plan cs (f .stages);
-    executed = asks-all plan cs ok (f .stages);
-    intervals = λ a. moves-once a plan cs ok (f .stages);
+    only = λ unused ps w. way-same (Called (plan .passes)) (called-same (plan .passes)) w (walked plan cs (f .stages)) .1;
+    made = onto (f .made) [];
+    declared = map-onto (λ (d : Made). d .declaration) (f .made) [] ∙ (ap (λ l. onto l []) (declares-all plan cs (f .stages)) ∙ sym (chain-onto (λ (p : Pass). p .declarations) (f .called) []));
+    executed-all = keep-onto (λ (e : Event). whole (e .action .verb)) (k .history) [] ∙ (ap (λ l. onto l []) (asks-all plan cs ok (f .stages)) ∙ sym (chain-onto executed (f .made) []));
+    from-start = λ a. once-from-start a plan cs ok (f .stages);
+    from-write = λ a. once-from-write a plan cs ok (f .stages);
   }
 
 pub demand3 : Claim3
@@ -80,6 +104,10 @@ demand3 plan ok cs = record {
   moves-exactly = λ k e. moved plan cs ok (at-end plan cs ok e);
 }
 
+moved-onto : (layout : Layout) (l rest : List Made) → moved-cells layout (onto l rest) ≡ moved-cells layout l + moved-cells layout rest
+moved-onto layout [] rest = omega arith
+moved-onto layout (d ∷ l) rest = omega (arith, moved-onto layout l (d ∷ rest))
+
 pub moves-add : ClaimMoved
 unfolding moved
-moves-add plan ok cs k e = let f = at-end plan cs ok e in (moved plan cs ok f, adds-all plan cs ok (f .stages))
+moves-add plan ok cs k e = let f = at-end plan cs ok e in (moved plan cs ok f, adds-all plan cs ok (f .stages) ∙ sym (moved-onto (plan .layout) (f .made) [] ∙ omega arith))

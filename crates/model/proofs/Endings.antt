@@ -21,12 +21,12 @@ module _ (plan : Plan) (all : List Bool) where
 
   -- with the choices cs left, whatever else is left
   abbrev EndsWith : List Bool → Type 0
-  EndsWith cs = (b : Block) (σ : State) (l : List Event) → Run plan all (config b cs σ l) → Ended
+  EndsWith cs = (b : Block Action) (σ : State) (l : List Event) → Run plan all (config b cs σ l) → Ended
 
   ended : (k : Config) (e : Ending) → Run plan all k → step (plan .layout) k ≡ ends e → Ended
   ended k e h q = record { last = k; ending = e; ends = record { run = h; last = q } }
 
-  end-act : (cs : List Bool) (r : ℕ) (x : Action) (b : Block) → ((σ : State) (l : List Event) → Run plan all (config b cs σ l) → Ended) →
+  end-act : (cs : List Bool) (r : ℕ) (x : Action) (b : Block Action) → ((σ : State) (l : List Event) → Run plan all (config b cs σ l) → Ended) →
       (σ : State) (l : List Event) → Run plan all (config (act r x b) cs σ l) → Ended
   end-act cs r x b more σ l h = go (lowest-unmet (plan .layout) x σ) refl
     where

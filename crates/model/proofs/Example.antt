@@ -11,7 +11,7 @@ use Rattle.model.specs.Records.{Verb, read, write, need, mark, Action, w
 use Rattle.model.specs.Effects.{Deed, nothing, gets, puts, moves}
 use Rattle.model.specs.Blocks.{Block, act}
 use Rattle.model.specs.Runs.{Event, Config, Step, next, ends, finished, step, begin, here, onward, Ends}
-use Rattle.model.specs.Judging.{R, W, Pass, Body0, DeclaredPlan, Rules, Accepts}
+use Rattle.model.specs.Judging.{R, W, Pass, DeclaredPlan, Rules, Accepts}
 use Rattle.model.specs.Expanding.{expansion}
 use Rattle.model.specs.Demand.{Moves}
 use Rattle.model.proofs.Numbering.{span-within}
@@ -29,7 +29,7 @@ abbrev look : Pass
 look = record { declarations = record { mode = R; side = host; array = 0 } ∷ []; body = act 5 (of-both read host) Block.done }
 
 abbrev plan : DeclaredPlan
-plan = record { layout = record { lengths = 2 ∷ [] }; body0 = Body0.call 1 (Body0.call 2 Body0.done); passes = fill ∷ (look ∷ []) }
+plan = record { layout = record { lengths = 2 ∷ [] }; body0 = act 0 1 (act 1 2 Block.done); passes = fill ∷ (look ∷ []) }
 
 both : (c : ℕ) → c < 2 → covers (plan .layout) (of-both write card) c ≡ true
 unfolding covers sum-before

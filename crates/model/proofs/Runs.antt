@@ -12,7 +12,7 @@ use Rattle.model.specs.Runs.{Event, Config, next, carry, stop-or, lowest
 use Rattle.model.specs.Check.{Carried}
 use Rattle.model.specs.Claims.{ClaimCarried}
 
-abbrev pub config : Block → List Bool → State → List Event → Config
+abbrev pub config : Block Action → List Bool → State → List Event → Config
 config b cs σ l = record { left = b; choices = cs; state = σ; history = l }
 
 -- a record as it is executed
@@ -23,7 +23,7 @@ pub next-same : (k k′ : Config) → next k ≡ next k′ → k ≡ k′
 next-same k k′ e = cc
 
 module _ (layout : Layout) where
-  pub next-carry : (b : Block) (cs : List Bool) (σ : State) (l : List Event) (k : Config) → step layout (config b cs σ l) ≡ next k → carry layout (config b cs σ l) ≡ next k
+  pub next-carry : (b : Block Action) (cs : List Bool) (σ : State) (l : List Event) (k : Config) → step layout (config b cs σ l) ≡ next k → carry layout (config b cs σ l) ≡ next k
   next-carry done cs σ l k e = e
   next-carry (act r x b) cs σ l k e = go (lowest-unmet layout x σ) e
     where
@@ -43,7 +43,7 @@ proper-carried plan cs k = carried plan
 -- what holds at the start and is kept by every executed record
 module _ (plan : Plan) (P : State → List Event → Type 0) (first : P (start (plan .layout)) [])
     (keeps : (x : Action) (σ : State) (l : List Event) → P σ l → P (effect (plan .layout) x σ) (event x σ ∷ l)) where
-  kept-on : (b : Block) (cs : List Bool) (σ : State) (l : List Event) (k : Config) → carry (plan .layout) (config b cs σ l) ≡ next k → P σ l → P (k .state) (k .history)
+  kept-on : (b : Block Action) (cs : List Bool) (σ : State) (l : List Event) (k : Config) → carry (plan .layout) (config b cs σ l) ≡ next k → P σ l → P (k .state) (k .history)
   kept-on done cs σ l k e p = absurd (true≢false (cc))
   kept-on (act r x b) cs σ l k e p = subst (λ (m : Config). P (m .state) (m .history)) (next-same _ k e) (keeps x σ l p)
   kept-on (branch r x y b) [] σ l k e p = absurd (true≢false (cc))

@@ -8,6 +8,7 @@ use mathlib.Core.Option.{Option, none, some}
 use native.Mathlib.Omega.{arith}
 use Rattle.model.specs.Sides.{cell-count}
 use Rattle.model.specs.Effects.{State}
+use Rattle.model.specs.Records.{Action}
 use Rattle.model.specs.Blocks.{Block, done, act, branch, loop, Plan}
 use Rattle.model.specs.Runs.{Event, Config, next, ends, stopped, carry, lowest-unmet, stop-or, step, here, onward, Run}
 use Rattle.model.specs.Check.{Carried, MayStop, Stuck}
@@ -17,7 +18,7 @@ use Rattle.model.proofs.Runs.{config, carried}
 
 module _ (plan : Plan) where
   -- a carried-on run is a run, or a run on the same choices gets stuck
-  run-on : (b : Block) (cs : List Bool) (σ : State) (l : List Event) {ds : List Bool} (k : Config) →
+  run-on : (b : Block Action) (cs : List Bool) (σ : State) (l : List Event) {ds : List Bool} (k : Config) →
       Run plan ds (config b cs σ l) → carry (plan .layout) (config b cs σ l) ≡ next k → Run plan ds k ⊎ Stuck plan
   run-on done cs σ l k h e = inl (onward h e)
   run-on (act r x b) cs σ l {ds} k h e = go (lowest-unmet (plan .layout) x σ) refl
@@ -39,7 +40,7 @@ module _ (plan : Plan) where
     | inr s ↦ s
   ]
 
-  stuck-on : (b : Block) (cs : List Bool) (σ : State) (l : List Event) (r c : ℕ) {ds : List Bool} →
+  stuck-on : (b : Block Action) (cs : List Bool) (σ : State) (l : List Event) (r c : ℕ) {ds : List Bool} →
       Carried plan ds (config b cs σ l) → step (plan .layout) (config b cs σ l) ≡ ends (stopped r c) → MayStop plan r c
   stuck-on done cs σ l r c h e = absurd (true≢false (cc))
   stuck-on (act q x b) cs σ l r c {ds} h e = go (lowest-unmet (plan .layout) x σ) refl e

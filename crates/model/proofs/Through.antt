@@ -21,14 +21,14 @@ pub data Star (R : Status → Status → Type 0) : Status → Status → Type 0 
 
 module _ (layout : Layout) (c : ℕ) where
   -- cell c can go through the block from status u to status v
-  abbrev pub Goes : Block → Status → Status → Type 0
+  abbrev pub Goes : Block Action → Status → Status → Type 0
   Goes done u v = u ≡ v
   Goes (act k x b) u v = Goes b (status-after layout c x u) v
   Goes (branch k x y b) u v = (w : Status) × (Goes x u w ⊎ Goes y u w) × Goes b w v
   Goes (loop k x b) u v = (w : Status) × Star (Goes x) u w × Goes b w v
 
   -- from status u it can stop at record r of the block
-  abbrev pub Stops : Block → Status → ℕ → Type 0
+  abbrev pub Stops : Block Action → Status → ℕ → Type 0
   Stops done u r = ⊥
   Stops (act k x b) u r = ((k ≡ r) × (met-in layout c x u ≡ false)) ⊎ Stops b (status-after layout c x u) r
   Stops (branch k x y b) u r = (Stops x u r ⊎ Stops y u r) ⊎ ((w : Status) × (Goes x u w ⊎ Goes y u w) × Stops b w r)
@@ -37,10 +37,10 @@ module _ (layout : Layout) (c : ℕ) where
   -- every stop of a carried-on run is one of these: from the stop back to the start
   module _ (r : ℕ) where
     -- a stop in x, or after it in b
-    abbrev InOrAfter : Block → Block → Status → Type 0
+    abbrev InOrAfter : Block Action → Block Action → Status → Type 0
     InOrAfter x b u = Stops x u r ⊎ ((w : Status) × Goes x u w × Stops b w r)
 
-    stops-then : (x b : Block) (u : Status) → Stops (x then b) u r → InOrAfter x b u
+    stops-then : (x b : Block Action) (u : Status) → Stops (x then b) u r → InOrAfter x b u
     stops-then done b u s = inr (u, refl, s)
     stops-then (act k y x) b u (inl s) = inl (inl s)
     stops-then (act k y x) b u (inr s) = elim (stops-then x b (status-after layout c y u) s) [ inl t ↦ inl (inr t) | inr t ↦ inr t ]
@@ -51,11 +51,11 @@ module _ (layout : Layout) (c : ℕ) where
       | inr t ↦ elim (stops-then x b (s .0) t) [ inl q ↦ inl (s .0, s .1, inr q) | inr q ↦ inr (q .0, (s .0, s .1, q .1), q .2) ]
     ]
 
-    stops-branch : (k : ℕ) (x y b : Block) (d : Bool) (u : Status) → Stops (cond d x y then b) u r → Stops (branch k x y b) u r
+    stops-branch : (k : ℕ) (x y b : Block Action) (d : Bool) (u : Status) → Stops (cond d x y then b) u r → Stops (branch k x y b) u r
     stops-branch k x y b true u s = elim (stops-then x b u s) [ inl t ↦ inl (inl t) | inr t ↦ inr (t .0, inl (t .1), t .2) ]
     stops-branch k x y b false u s = elim (stops-then y b u s) [ inl t ↦ inl (inr t) | inr t ↦ inr (t .0, inr (t .1), t .2) ]
 
-    stops-loop : (k : ℕ) (x b : Block) (d : Bool) (u : Status) → Stops (cond d (x then loop k x b) b) u r → Stops (loop k x b) u r
+    stops-loop : (k : ℕ) (x b : Block Action) (d : Bool) (u : Status) → Stops (cond d (x then loop k x b) b) u r → Stops (loop k x b) u r
     stops-loop k x b true u s = elim (stops-then x (loop k x b) u s) [ inl t ↦ (u, stay, inl t) | inr t ↦ (t .2 .0, more (t .1) (t .2 .1), t .2 .2) ]
     stops-loop k x b false u s = (u, stay, inr s)
 
@@ -63,7 +63,7 @@ module _ (layout : Layout) (c : ℕ) where
     abbrev StopsFrom : Config → Type 0
     StopsFrom k = Stops (k .left) (status-of layout c (k .state)) r
 
-    stops-before : (b : Block) (cs : List Bool) (σ : State) (l : List Event) (k : Config) → Past σ →
+    stops-before : (b : Block Action) (cs : List Bool) (σ : State) (l : List Event) (k : Config) → Past σ →
         carry layout (config b cs σ l) ≡ next k → StopsFrom k → StopsFrom (config b cs σ l)
     stops-before done cs σ l k p e = absurd (true≢false (cc))
     stops-before (act q x b) cs σ l k p e = rw (← next-same _ k e) (λ s. inr (rw (status-effect layout c x σ p) at s))
@@ -75,12 +75,12 @@ module _ (layout : Layout) (c : ℕ) where
   -- each of these is a stop of some carried-on run: the choices are built from the last one to the first
   module _ (r : ℕ) where
     -- with b left, some choices lead to a stop at record r
-    record CanStop (b : Block) (σ : State) (l : List Event) : Type 0 where
+    record CanStop (b : Block Action) (σ : State) (l : List Event) : Type 0 where
       choices : List Bool
       last : Config
       reached : Reached (carry layout) (config b choices σ l) last
       action : Action
-      rest : Block
+      rest : Block Action
       left : last .left ≡ act r action rest
       unmet : met layout action (last .state) c ≡ false
 
@@ -88,7 +88,7 @@ module _ (layout : Layout) (c : ℕ) where
     reached-before e here = onward here e
     reached-before e (onward h f) = onward (reached-before e h) f
 
-    can-stop-before : {b b′ : Block} {σ σ′ : State} {l l′ : List Event} (taken : List Bool → List Bool) →
+    can-stop-before : {b b′ : Block Action} {σ σ′ : State} {l l′ : List Event} (taken : List Bool → List Bool) →
         ((cs : List Bool) → carry layout (config b (taken cs) σ l) ≡ next (config b′ cs σ′ l′)) → CanStop b′ σ′ l′ → CanStop b σ l
     can-stop-before taken e m = record {
       choices = taken (m .choices);
@@ -101,26 +101,26 @@ module _ (layout : Layout) (c : ℕ) where
     }
 
     -- so it is in every state in which the cell has status u
-    abbrev From : Block → Status → Type 0
+    abbrev From : Block Action → Status → Type 0
     From b u = (σ : State) (l : List Event) → Past σ → status-of layout c σ ≡ u → CanStop b σ l
 
-    from-act : (k : ℕ) (x : Action) (b : Block) (u : Status) → From b (status-after layout c x u) → From (act k x b) u
+    from-act : (k : ℕ) (x : Action) (b : Block Action) (u : Status) → From b (status-after layout c x u) → From (act k x b) u
     from-act k x b u f σ l p e = can-stop-before (λ cs. cs) (λ cs. refl)
         (f (effect layout x σ) (event x σ ∷ l) (past-effect layout x σ p) (status-effect layout c x σ p ∙ ap (status-after layout c x) e))
 
-    from-branch : (k : ℕ) (x y b : Block) (d : Bool) (u : Status) → From (cond d x y then b) u → From (branch k x y b) u
+    from-branch : (k : ℕ) (x y b : Block Action) (d : Bool) (u : Status) → From (cond d x y then b) u → From (branch k x y b) u
     from-branch k x y b d u f σ l p e = can-stop-before (λ cs. d ∷ cs) (λ cs. refl) (f σ l p e)
 
-    from-loop : (k : ℕ) (x b : Block) (d : Bool) (u : Status) → From (cond d (x then loop k x b) b) u → From (loop k x b) u
+    from-loop : (k : ℕ) (x b : Block Action) (d : Bool) (u : Status) → From (cond d (x then loop k x b) b) u → From (loop k x b) u
     from-loop k x b d u f σ l p e = can-stop-before (λ cs. d ∷ cs) (λ cs. refl) (f σ l p e)
 
-    from-star : (k : ℕ) (x b : Block) (u v : Status) → ((u v : Status) → Goes x u v → From (loop k x b) v → From (x then loop k x b) u) →
+    from-star : (k : ℕ) (x b : Block Action) (u v : Status) → ((u v : Status) → Goes x u v → From (loop k x b) v → From (x then loop k x b) u) →
         Star (Goes x) u v → From (loop k x b) v → From (loop k x b) u
     from-star k x b u v one stay f = f
     from-star k x b u v one (more {w = w} g s) f = from-loop k x b true u (one u w g (from-star k x b w v one s f))
 
     -- through x, and then whatever b leads to
-    from-goes : (x b : Block) (u v : Status) → Goes x u v → From b v → From (x then b) u
+    from-goes : (x b : Block Action) (u v : Status) → Goes x u v → From b v → From (x then b) u
     from-goes done b u v g f = rw g f
     from-goes (act k y x) b u v g f = from-act k y (x then b) u (from-goes x b (status-after layout c y u) v g f)
     from-goes (branch k y z x) b u v g f = elim (g .1) [
@@ -130,7 +130,7 @@ module _ (layout : Layout) (c : ℕ) where
     from-goes (loop k y x) b u v g f = from-star k y (x then b) u (g .0) (from-goes y (loop k y (x then b))) (g .1)
         (from-loop k y (x then b) false (g .0) (from-goes x b (g .0) v (g .2) f))
 
-    from-stops : (x b : Block) (u : Status) → Stops x u r → From (x then b) u
+    from-stops : (x b : Block Action) (u : Status) → Stops x u r → From (x then b) u
     from-stops done b u s = absurd s
     from-stops (act k y x) b u (inl s) = λ σ l p e. record {
       choices = [];
@@ -153,7 +153,7 @@ module _ (layout : Layout) (c : ℕ) where
       | inr t ↦ from-loop k y (x then b) false (s .0) (from-stops x b (s .0) t)
     ])
 
-pub then-done : (x : Block) → x then done ≡ x
+pub then-done : (x : Block Action) → x then done ≡ x
 then-done done = refl
 then-done (act k y x) = ap (act k y) (then-done x)
 then-done (branch k y z x) = ap (branch k y z) (then-done x)

@@ -79,14 +79,14 @@ star-keeps P k {u} (more {w = w} r s) p = star-keeps P k s (k u w p r)
 
 module _ (layout : Layout) (c : ℕ) where
   -- the statuses in which the cell can leave a block, from those of a list
-  abbrev pub exits : Block → List Status → List Status
+  abbrev pub exits : Block Action → List Status → List Status
   exits done l = l
   exits (act k x b) l = exits b (map (status-after layout c x) l)
   exits (branch k x y b) l = exits b (exits x l ++ exits y l)
   exits (loop k x b) l = exits b (l ++ exits x l)
 
   -- whether no loop can bring more
-  abbrev pub settled : Block → List Status → Bool
+  abbrev pub settled : Block Action → List Status → Bool
   settled done l = true
   settled (act k x b) l = settled b (map (status-after layout c x) l)
   settled (branch k x y b) l = settled x l && (settled y l && settled b (exits x l ++ exits y l))
@@ -97,7 +97,7 @@ module _ (layout : Layout) (c : ℕ) where
   unmet k x [] = []
   unmet k x (u ∷ l) = cond (met-in layout c x u) (unmet k x l) (k ∷ unmet k x l)
 
-  abbrev pub stops : Block → List Status → List ℕ
+  abbrev pub stops : Block Action → List Status → List ℕ
   stops done l = []
   stops (act k x b) l = unmet k x l ++ stops b (map (status-after layout c x) l)
   stops (branch k x y b) l = (stops x l ++ stops y l) ++ stops b (exits x l ++ exits y l)
@@ -108,10 +108,10 @@ module _ (layout : Layout) (c : ℕ) where
   From l R v = (u : Status) × Has l u × R u v
 
   -- after one turn or none
-  turned-from : (x : Block) (l : List Status) (w : Status) → (Has (exits x l) w → From l (Goes layout c x) w) → Has (l ++ exits x l) w → From l (Star (Goes layout c x)) w
+  turned-from : (x : Block Action) (l : List Status) (w : Status) → (Has (exits x l) w → From l (Goes layout c x) w) → Has (l ++ exits x l) w → From l (Star (Goes layout c x)) w
   turned-from x l w f h = elim (has-out l (exits x l) w h) [ inl e ↦ (w, e, stay) | inr e ↦ let q = f e in (q .0, q .1, more (q .2) stay) ]
 
-  exits-from : (b : Block) (l : List Status) (v : Status) → Has (exits b l) v → From l (Goes layout c b) v
+  exits-from : (b : Block Action) (l : List Status) (v : Status) → Has (exits b l) v → From l (Goes layout c b) v
   exits-from done l v h = (v, h, refl)
   exits-from (act k x b) l v h = let p = exits-from b _ v h in let q = map-out (status-after layout c x) l (p .0) (p .1) in (q .0, q .1, rw (q .2) (p .2))
   exits-from (branch k x y b) l v h = let p = exits-from b (exits x l ++ exits y l) v h in elim (has-out (exits x l) (exits y l) (p .0) (p .1)) [
@@ -121,7 +121,7 @@ module _ (layout : Layout) (c : ℕ) where
   exits-from (loop k x b) l v h = let p = exits-from b (l ++ exits x l) v h in let q = turned-from x l (p .0) (exits-from x l (p .0)) (p .1) in (q .0, q .1, (p .0, q .2, p .2))
 
   -- and nothing is missing where all is settled
-  exits-all : (b : Block) (l : List Status) → settled b l ≡ true → (u v : Status) → Has l u → Goes layout c b u v → Has (exits b l) v
+  exits-all : (b : Block Action) (l : List Status) → settled b l ≡ true → (u v : Status) → Has l u → Goes layout c b u v → Has (exits b l) v
   exits-all done l s u v h g = subst (Has l) g h
   exits-all (act k x b) l s u v h g = exits-all b (map (status-after layout c x) l) s (status-after layout c x u) v (map-in (status-after layout c x) l u h) g
   exits-all (branch k x y b) l s u v h g =
@@ -158,7 +158,7 @@ module _ (layout : Layout) (c : ℕ) where
       go true h = h
       go false h = inr h
 
-  stops-from : (b : Block) (l : List Status) (r : ℕ) → Has (stops b l) r → From l (Stops layout c b) r
+  stops-from : (b : Block Action) (l : List Status) (r : ℕ) → Has (stops b l) r → From l (Stops layout c b) r
   stops-from done l r h = absurd h
   stops-from (act k x b) l r h = elim (has-out (unmet k x l) _ r h) [
     | inl e ↦ let p = unmet-from k x l r e in (p .0, p .1, inl (p .2))
@@ -179,7 +179,7 @@ module _ (layout : Layout) (c : ℕ) where
     | inr e ↦ let p = stops-from b (l ++ exits x l) r e in let q = turned-from x l (p .0) (exits-from x l (p .0)) (p .1) in (q .0, q .1, (p .0, q .2, inr (p .2)))
   ]
 
-  stops-all : (b : Block) (l : List Status) → settled b l ≡ true → (u : Status) (r : ℕ) → Has l u → Stops layout c b u r → Has (stops b l) r
+  stops-all : (b : Block Action) (l : List Status) → settled b l ≡ true → (u : Status) (r : ℕ) → Has l u → Stops layout c b u r → Has (stops b l) r
   stops-all done l s u r h t = absurd t
   stops-all (act k x b) l s u r h (inl t) = has-left (unmet k x l) _ r (subst (Has (unmet k x l)) (t .0) (unmet-all k x l u h (t .1)))
   stops-all (act k x b) l s u r h (inr t) = has-right (unmet k x l) _ r (stops-all b (map (status-after layout c x) l) s (status-after layout c x u) r (map-in (status-after layout c x) l u h) t)

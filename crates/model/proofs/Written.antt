@@ -8,7 +8,7 @@ use Rattle.model.specs.Lists.{any}
 use Rattle.model.specs.Sides.{Side, Layout}
 use Rattle.model.specs.Records.{Action}
 use Rattle.model.specs.Blocks.{Block, act, branch, loop}
-use Rattle.model.specs.Judging.{Way, writes-cell, always-writes}
+use Rattle.model.specs.Judging.{Way, at-end, passing, choosing, leaving, turning, Itself, itself, writes-cell, always-writes}
 use Rattle.model.specs.Claims.{ClaimWritten}
 use Rattle.model.proofs.Booleans.{or-out, or-left, or-right, or-none, and-out, and-none, any-append}
 
@@ -16,42 +16,42 @@ module _ (layout : Layout) (s : Side) (c : ℕ) where
   abbrev writes : Action → Bool
   writes = writes-cell layout s c
 
-  abbrev always : Block → Bool
+  abbrev always : Block Action → Bool
   always = always-writes layout s c
 
-  arm : (z : Bool) (x y : Block) → always x ≡ true → always y ≡ true → always (cond z x y) ≡ true
+  arm : (z : Bool) (x y : Block Action) → always x ≡ true → always y ≡ true → always (cond z x y) ≡ true
   arm true x y e f = e
   arm false x y e f = f
 
-  way-writes : {b : Block} {cs ds : List Bool} {w : List Action} → Way b cs ds w → always b ≡ true → any writes w ≡ true
-  way-writes Way.done e = absurd (false≢true e)
-  way-writes (Way.act {x = x} {b} {w = w} h) e = go (λ f. way-writes h f) (or-out (writes x) (always b) e)
+  way-writes : {b : Block Action} {cs ds : List Bool} {w : List Action} → Way Itself b cs ds w → always b ≡ true → any writes w ≡ true
+  way-writes at-end e = absurd (false≢true e)
+  way-writes (passing {x = x} {b} {w = w} itself h) e = go (λ f. way-writes h f) (or-out (writes x) (always b) e)
     where
       go : (always b ≡ true → any writes w ≡ true) → (writes x ≡ true) ⊎ (always b ≡ true) → (writes x || any writes w) ≡ true
       go ih (inl f) = or-left (writes x) (any writes w) f
       go ih (inr f) = or-right (writes x) (any writes w) (ih f)
-  way-writes (Way.branch {x = x} {y} {b} {c = z} {v = v} {w} h k) e = rw (any-append writes v w) (go (λ f. way-writes h f) (λ f. way-writes k f) (or-out _ (always b) e))
+  way-writes (choosing {x = x} {y} {b} {c = z} {v = v} {w} h k) e = rw (any-append writes v w) (go (λ f. way-writes h f) (λ f. way-writes k f) (or-out _ (always b) e))
     where
       go : (always (cond z x y) ≡ true → any writes v ≡ true) → (always b ≡ true → any writes w ≡ true) →
           ((always x && always y) ≡ true) ⊎ (always b ≡ true) → (any writes v || any writes w) ≡ true
       go ih jh (inl f) = let g = and-out (always x) (always y) f in or-left (any writes v) (any writes w) (ih (arm z x y (g .0) (g .1)))
       go ih jh (inr f) = or-right (any writes v) (any writes w) (jh f)
-  way-writes (Way.leave h) e = way-writes h e
-  way-writes (Way.turn {v = v} {w} h k) e = rw (any-append writes v w) (or-right (any writes v) (any writes w) (way-writes k e))
+  way-writes (leaving h) e = way-writes h e
+  way-writes (turning {v = v} {w} h k) e = rw (any-append writes v w) (or-right (any writes v) (any writes w) (way-writes k e))
 
   -- a way to the choices ds that does not write the cell
-  pub record Unwritten (b : Block) (ds : List Bool) : Type 0 where
+  pub record Unwritten (b : Block Action) (ds : List Bool) : Type 0 where
     pub choices : List Bool
     pub records : List Action
-    pub way : Way b choices ds records
+    pub way : Way Itself b choices ds records
     pub none : any (writes-cell layout s c) records ≡ false
 
-  pub unwritten : (b : Block) (ds : List Bool) → always-writes layout s c b ≡ false → Unwritten b ds
-  unwritten Block.done ds e = record { choices = ds; records = []; way = Way.done; none = refl }
+  pub unwritten : (b : Block Action) (ds : List Bool) → always-writes layout s c b ≡ false → Unwritten b ds
+  unwritten Block.done ds e = record { choices = ds; records = []; way = at-end; none = refl }
   unwritten (act r x b) ds e = let f = or-none (writes x) (always b) e in go (f .0) (unwritten b ds (f .1))
     where
       go : writes x ≡ false → Unwritten b ds → Unwritten (act r x b) ds
-      go f i = record { choices = i .choices; records = x ∷ i .records; way = Way.act (i .way); none = rw f (i .none) }
+      go f i = record { choices = i .choices; records = x ∷ i .records; way = passing itself (i .way); none = rw f (i .none) }
   unwritten (branch r x y b) ds e =
       let f = or-none (always x && always y) (always b) e in
       go (unwritten x) (unwritten y) (unwritten b ds (f .1)) (and-none (always x) (always y) (f .0))
@@ -60,7 +60,7 @@ module _ (layout : Layout) (s : Side) (c : ℕ) where
       join z i j = record {
         choices = z ∷ j .choices;
         records = j .records ++ i .records;
-        way = Way.branch (j .way) (i .way);
+        way = choosing (j .way) (i .way);
         none = rw (any-append writes (j .records) (i .records), j .none) (i .none);
       }
 
@@ -70,9 +70,9 @@ module _ (layout : Layout) (s : Side) (c : ℕ) where
       go jx jy i (inr f) = join false i (jy (i .choices) f)
   unwritten (loop r x b) ds e =
       let i = unwritten b ds e in
-      record { choices = false ∷ i .choices; records = i .records; way = Way.leave (i .way); none = i .none }
+      record { choices = false ∷ i .choices; records = i .records; way = leaving (i .way); none = i .none }
 
-  written-back : (b : Block) → ((cs ds : List Bool) (w : List Action) → Way b cs ds w → any writes w ≡ true) → (z : Bool) → always b ≡ z → always b ≡ true
+  written-back : (b : Block Action) → ((cs ds : List Bool) (w : List Action) → Way Itself b cs ds w → any writes w ≡ true) → (z : Bool) → always b ≡ z → always b ≡ true
   written-back b f true e = e
   written-back b f false e = let i = unwritten b [] e in absurd (true≢false (sym (f (i .choices) [] (i .records) (i .way)) ∙ i .none))
 

@@ -15,7 +15,7 @@ use Rattle.model.specs.Check.{Answers}
 -- a row: the cells of the one array, the body, the check's answer
 pub record Case : Type 0 where
   pub cells : ℕ
-  pub body : Block
+  pub body : Block Action
   pub answer : Verdict
 
 -- its plan, the records numbered from 0
@@ -23,7 +23,7 @@ abbrev pub plan-of : Case → Plan
 plan-of row = record { layout = record { lengths = row .cells ∷ [] }; body = numbered 0 (row .body) }
 
 -- a row from its three parts
-abbrev pub case : ℕ → Block → Verdict → Case
+abbrev pub case : ℕ → Block Action → Verdict → Case
 case n b v = record { cells = n; body = b; answer = v }
 
 -- a record of cell 0 of array 0, and of its cells 0 and 1
@@ -36,7 +36,7 @@ v on-both s = record { verb = v; side = s; name = 0; p = 0; q = 2 }
 
 -- one record and then the rest
 infixr 60 _⨾_
-abbrev pub _⨾_ : Action → Block → Block
+abbrev pub _⨾_ : Action → Block Action → Block Action
 x ⨾ b = act 0 x b
 
 -- "10 loop (read host, read card, write card): a run proper that takes a turn stops first at 2, the answer is 1."

@@ -22,7 +22,7 @@ pub record MayStop (plan : Plan) (r c : ℕ) : Type 0 where
   pub config : Config
   pub carried : Carried plan choices config
   pub action : Action
-  pub rest : Block
+  pub rest : Block Action
   pub left : config .left ≡ act r action rest
   pub unmet : met (plan .layout) action (config .state) c ≡ false
 

@@ -12,7 +12,7 @@ use Rattle.model.specs.Records.{whole, Action, covers, cover-count}
 use Rattle.model.specs.Blocks.{Block, Plan}
 use Rattle.model.specs.Runs.{Config, Ending, finished, Run, Ends, tally}
 use Rattle.model.specs.Check.{Carried, Answers, Stuck}
-use Rattle.model.specs.Judging.{DeclaredPlan, Way, writes-cell, always-writes, Accepts}
+use Rattle.model.specs.Judging.{DeclaredPlan, Way, Itself, writes-cell, always-writes, Accepts}
 use Rattle.model.specs.Expanding.{expansion}
 use Rattle.model.specs.Demand.{latest-write, moved-cells, Moves, Demand3}
 use Rattle.model.specs.Cases.{twelve, AllAnswer, StopsFirstAt2, nearly}
@@ -60,9 +60,9 @@ ClaimCases = AllAnswer twelve × StopsFirstAt2 × AllAnswer nearly
 
 -- CLAIM (proofs/Written, `always-written`): the test of a W is exact: it passes exactly if every way through the block writes the cell
 abbrev pub ClaimWritten : Type 0
-ClaimWritten = (layout : Layout) (s : Side) (c : ℕ) (b : Block) →
+ClaimWritten = (layout : Layout) (s : Side) (c : ℕ) (b : Block Action) →
     (always-writes layout s c b ≡ true)
-    ↔ ((cs ds : List Bool) (w : List Action) → Way b cs ds w → any (writes-cell layout s c) w ≡ true)
+    ↔ ((cs ds : List Bool) (w : List Action) → Way Itself b cs ds w → any (writes-cell layout s c) w ≡ true)
 
 -- CLAIM (proofs/Demand3, `demand3`): demand 3 holds of every accepted declared plan and every list of choices
 abbrev pub Claim3 : Type 0

@@ -34,19 +34,12 @@ pub record Declaration : Type 0 where
 -- "Its other bodies are passes: declarations first .. then kinds 1 to 7."
 pub record Pass : Type 0 where
   pub declarations : List Declaration
-  pub body : Block
+  pub body : Block Action
 
--- "Body 0 of a declared plan has no declarations and holds kinds 6, 7, 8": calls, branches and loops, each with the rest
-pub data Body0 : Type 0 where
-  done : Body0
-  call : ℕ → Body0 → Body0
-  branch : Body0 → Body0 → Body0 → Body0
-  loop : Body0 → Body0 → Body0
-
--- a declared plan: its arrays, body 0, and the bodies from 1 on
+-- "Body 0 of a declared plan has no declarations and holds kinds 6, 7, 8": a block of calls, by the number of the body called; and the bodies from 1 on
 pub record DeclaredPlan : Type 0 where
   pub layout : Layout
-  pub body0 : Body0
+  pub body0 : Block ℕ
   pub passes : List Pass
 
 -- a pass of no records
@@ -83,44 +76,49 @@ abbrev pub permits : List Declaration → Action → Bool
 permits ds x = declares (allowed-by (x .verb)) (x .side) (x .name) ds
 
 -- whether every record of a block, those of its arms included, passes the test
-abbrev pub every : (Action → Bool) → Block → Bool
+abbrev pub every : (Action → Bool) → Block Action → Bool
 every f Block.done = true
 every f (Block.act r x b) = f x && every f b
 every f (Block.branch r x y b) = every f x && (every f y && every f b)
 every f (Block.loop r x b) = every f x && every f b
 
--- one way through a block, stops aside: the choices before it, those left after it, and its records in order
-pub data Way : Block → List Bool → List Bool → List Action → Type 0 where
-  done : {cs : List Bool} → Way Block.done cs cs []
-  act : {r : ℕ} {x : Action} {b : Block} {cs ds : List Bool} {w : List Action} → Way b cs ds w → Way (Block.act r x b) cs ds (x ∷ w)
-  branch : {r : ℕ} {x y b : Block} {c : Bool} {cs ds es : List Bool} {v w : List Action} →
-      Way (cond c x y) cs ds v → Way b ds es w → Way (Block.branch r x y b) (c ∷ cs) es (v ++ w)
-  leave : {r : ℕ} {x b : Block} {cs ds : List Bool} {w : List Action} → Way b cs ds w → Way (Block.loop r x b) (false ∷ cs) ds w
-  turn : {r : ℕ} {x b : Block} {cs ds es : List Bool} {v w : List Action} →
-      Way x cs ds v → Way (Block.loop r x b) ds es w → Way (Block.loop r x b) (true ∷ cs) es (v ++ w)
+-- one way through a block: the choices before it, those left after it, and what its records come to, in order. `Leaf` says the same of one record
+pub data Way {A B : Type 0} (Leaf : A → List Bool → List Bool → List B → Type 0) : Block A → List Bool → List Bool → List B → Type 0 where
+  at-end : {cs : List Bool} → Way Leaf Block.done cs cs []
+  passing : {r : ℕ} {x : A} {b : Block A} {cs ds es : List Bool} {v w : List B} →
+      Leaf x cs ds v → Way Leaf b ds es w → Way Leaf (Block.act r x b) cs es (v ++ w)
+  choosing : {r : ℕ} {x y b : Block A} {c : Bool} {cs ds es : List Bool} {v w : List B} →
+      Way Leaf (cond c x y) cs ds v → Way Leaf b ds es w → Way Leaf (Block.branch r x y b) (c ∷ cs) es (v ++ w)
+  leaving : {r : ℕ} {x b : Block A} {cs ds : List Bool} {w : List B} → Way Leaf b cs ds w → Way Leaf (Block.loop r x b) (false ∷ cs) ds w
+  turning : {r : ℕ} {x b : Block A} {cs ds es : List Bool} {v w : List B} →
+      Way Leaf x cs ds v → Way Leaf (Block.loop r x b) ds es w → Way Leaf (Block.loop r x b) (true ∷ cs) es (v ++ w)
+
+-- a record of a pass, stops aside, takes no choice and comes to itself
+pub data Itself : Action → List Bool → List Bool → List Action → Type 0 where
+  itself : {x : Action} {cs : List Bool} → Itself x cs cs (x ∷ [])
 
 -- whether a record writes cell c on side s
 abbrev pub writes-cell : Layout → Side → ℕ → Action → Bool
 writes-cell layout s c x = same-verb (x .verb) write && (same-side (x .side) s && covers layout x c)
 
 -- "every way through the pass, stops aside, writes every cell of the array on that side"
-abbrev pub Written : Layout → Block → Declaration → Type 0
+abbrev pub Written : Layout → Block Action → Declaration → Type 0
 Written layout b d =
     (c : ℕ) → in-span (span-of layout (d .array)) c ≡ true →
-    (cs ds : List Bool) (w : List Action) → Way b cs ds w → any (writes-cell layout (d .side) c) w ≡ true
+    (cs ds : List Bool) (w : List Action) → Way Itself b cs ds w → any (writes-cell layout (d .side) c) w ≡ true
 
 -- its contrary: some way through the pass leaves a cell of the array unwritten on that side
-pub record Leaves (layout : Layout) (b : Block) (d : Declaration) : Type 0 where
+pub record Leaves (layout : Layout) (b : Block Action) (d : Declaration) : Type 0 where
   pub cell : ℕ
   pub inside : in-span (span-of layout (d .array)) cell ≡ true
   pub choices : List Bool
   pub unused : List Bool
   pub records : List Action
-  pub way : Way b choices unused records
+  pub way : Way Itself b choices unused records
   pub unwritten : any (writes-cell layout (d .side) cell) records ≡ false
 
 -- `Written` of one cell, as a test that computes
-abbrev pub always-writes : Layout → Side → ℕ → Block → Bool
+abbrev pub always-writes : Layout → Side → ℕ → Block Action → Bool
 always-writes layout s c Block.done = false
 always-writes layout s c (Block.act r x b) = writes-cell layout s c x || always-writes layout s c b
 always-writes layout s c (Block.branch r x y b) = (always-writes layout s c x && always-writes layout s c y) || always-writes layout s c b

@@ -1,13 +1,23 @@
 -- Words on lists, and one on places in memory, for the definitions after them.
 use Prim.Native.Nat.{ℕ, zero, suc, _+_}
 use mathlib.Core.Bool.{Bool, false, cond, _||_}
-use mathlib.Core.List.{List, [], _∷_}
+use mathlib.Core.List.{List, [], _∷_, _++_}
 
 module _ {A : Type 0} where
   -- whether one of the list passes the test
   abbrev pub any : (A → Bool) → List A → Bool
   any f [] = false
   any f (x ∷ l) = f x || any f l
+
+  -- those of the list that pass the test
+  abbrev pub keep : (A → Bool) → List A → List A
+  keep f [] = []
+  keep f (x ∷ l) = cond (f x) (x ∷ keep f l) (keep f l)
+
+  -- what each of the list gives, one after another
+  abbrev pub chain : {B : Type 0} → (A → List B) → List A → List B
+  chain f [] = []
+  chain f (x ∷ l) = f x ++ chain f l
 
   -- each of the list has the property
   abbrev pub All : (A → Type 0) → List A → Type 0

@@ -18,7 +18,7 @@ pub record Event : Type 0 where
 -- where a run stands: what is left, the choices left (true: "first arm or one more turn"), the state,
 -- and the records executed so far, the last one first
 pub record Config : Type 0 where
-  pub left : Block
+  pub left : Block Action
   pub choices : List Bool
   pub state : State
   pub history : List Event
@@ -39,10 +39,10 @@ pub data Step : Type 0 where
 abbrev pub carry : Layout → Config → Step
 carry layout k = go (k .left) (k .choices)
   where
-    to : Block → List Bool → Step
+    to : Block Action → List Bool → Step
     to b cs = next (record { left = b; choices = cs; state = k .state; history = k .history })
 
-    go : Block → List Bool → Step
+    go : Block Action → List Bool → Step
     go done cs = ends finished
     go (act r x b) cs = next (record {
       left = b;
@@ -73,7 +73,7 @@ stop-or r (some c) otherwise = ends (stopped r c)
 abbrev pub step : Layout → Config → Step
 step layout k = go (k .left)
   where
-    go : Block → Step
+    go : Block Action → Step
     go done = carry layout k
     go (act r x b) = stop-or r (lowest-unmet layout x (k .state)) (carry layout k)
     go (branch r x y b) = carry layout k

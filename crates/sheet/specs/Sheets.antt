@@ -28,7 +28,7 @@ sequences zero = [] ∷ []
 sequences (suc n) = flatMap (λ x. map (λ l. x ∷ l) (sequences n)) operations
 
 -- a sequence as records, numbered from r on
-abbrev pub records : ℕ → List Action → Block
+abbrev pub records : ℕ → List Action → Block Action
 records r [] = done
 records r (x ∷ l) = act r x (records (suc r) l)
 

@@ -6,6 +6,7 @@ use Prim.Native.Nat.{ℕ, zero, suc, _+_, _-_, _≤_, _<_}
 use native.Mathlib.Decide.{decLt, decLe}
 use native.Mathlib.Omega.{arith}
 use lib.ListN.{length, length-append}
+use Rattle.model.specs.Records.{Action}
 use Rattle.model.specs.Blocks.{Block, size}
 use Rattle.reading.specs.declared.Fields.{Fields}
 use Rattle.reading.specs.Bytes.{fields-at, first-arm, second-arm}
@@ -53,14 +54,14 @@ module _ (f : List ℕ) (b : ℕ) where
   good-tested depth r end g k h l = tested end depth r end k (omega arith) g h l
 
 -- a branch, and a loop, which has no second arm
-pub branch-fields : (kind n : ℕ) (b x y z : Block) → b ≡ Block.branch n x y z → kind ≡ 6 → block-fields b ≡ fields kind 0 0 (size x) (size y) ∷ (block-fields x ++ (block-fields y ++ block-fields z))
+pub branch-fields : (kind n : ℕ) (b x y z : Block Action) → b ≡ Block.branch n x y z → kind ≡ 6 → block-fields b ≡ fields kind 0 0 (size x) (size y) ∷ (block-fields x ++ (block-fields y ++ block-fields z))
 branch-fields kind n b x y z e k = rw (e, k)
 
-pub loop-fields : (kind n : ℕ) (b x y z : Block) → b ≡ Block.loop n x z → y ≡ Block.done → kind ≡ 7 → block-fields b ≡ fields kind 0 0 (size x) (size y) ∷ (block-fields x ++ (block-fields y ++ block-fields z))
+pub loop-fields : (kind n : ℕ) (b x y z : Block Action) → b ≡ Block.loop n x z → y ≡ Block.done → kind ≡ 7 → block-fields b ≡ fields kind 0 0 (size x) (size y) ∷ (block-fields x ++ (block-fields y ++ block-fields z))
 loop-fields kind n b x y z e d k = rw (e, d, k)
 
 -- t r has what is made of the records before r, from record `low` on; `block r end` is made of the records r up to `end`
-module _ (f : List ℕ) (b low : ℕ) (t : ℕ → List Fields) (block : ℕ → ℕ → Block) where
+module _ (f : List ℕ) (b low : ℕ) (t : ℕ → List Fields) (block : ℕ → ℕ → Block Action) where
   pub record Made : Type 0 where
     pub none : (r end : ℕ) → end ≤ r → block r end ≡ Block.done
     -- a branch or a loop, its arms, and the rest

@@ -10,6 +10,7 @@ use lib.Dec.{eqb}
 use lib.ListN.{length, length-set, getD, set, replicate, length-replicate, getD-replicate, List·getD-eq-default}
 use lib.Seq.{getD-set-same, getD-set-other}
 use borrow.Author.Tests.{eqb-true, eq-eqb, ne-eqb}
+use Rattle.model.specs.Records.{Action}
 use Rattle.model.specs.Blocks.{Block, done, loop}
 use Rattle.model.proofs.Status.{Status}
 use Rattle.reading.specs.Bytes.{layout-of, record-count}
@@ -118,12 +119,12 @@ module _ (f : List ℕ) (c class : ℕ) where
         ]
 
   -- a branch: its arms one after the other, each from the same statuses
-  pub passed-branch : (kind r : ℕ) (x y : Block) (rows rows′ : List ℕ) (from : Status → Type 0) (low : ℕ) (one two t : Found) → kind ≡ 6 → Union (t .set) (one .set) (two .set) → t .low ≡ two .low →
+  pub passed-branch : (kind r : ℕ) (x y : Block Action) (rows rows′ : List ℕ) (from : Status → Type 0) (low : ℕ) (one two t : Found) → kind ≡ 6 → Union (t .set) (one .set) (two .set) → t .low ≡ two .low →
       Passed f c class x from low rows one → Passed f c class y from (one .low) rows′ two → Passed f c class (nest kind r x y) from low rows′ t
   passed-branch kind r x y rows rows′ from low one two t e ts tl p q = record {
     ran = rw (eq-eqb kind 6 e) (ran-branch (layout-of f) c x y from low one two (p .ran) r (q .ran) t ts tl);
     exact = rw tl (q .exact);
   }
 
-  pub passed-loop : (kind r : ℕ) (x y : Block) (from : Status → Type 0) (low : ℕ) (rows : List ℕ) (t : Found) → (kind ≡ 6 → ⊥) → Passed f c class (loop r x done) from low rows t → Passed f c class (nest kind r x y) from low rows t
+  pub passed-loop : (kind r : ℕ) (x y : Block Action) (from : Status → Type 0) (low : ℕ) (rows : List ℕ) (t : Found) → (kind ≡ 6 → ⊥) → Passed f c class (loop r x done) from low rows t → Passed f c class (nest kind r x y) from low rows t
   passed-loop kind r x y from low rows t n p = rw (ne-eqb kind 6 n) p

@@ -11,6 +11,7 @@ use lib.Dec.{leb, ltb}
 use lib.ListN.{getD}
 use borrow.Author.Tests.{leb-true, leb-false, ltb-false}
 use Rattle.model.specs.Sides.{cell-count, span-of}
+use Rattle.model.specs.Records.{Action}
 use Rattle.model.specs.Blocks.{Block, done, act, branch, loop, _then_}
 use Rattle.model.proofs.Numbering.{array-ends}
 use Rattle.model.proofs.Through.{then-done}
@@ -28,7 +29,7 @@ use Rattle.summary.proofs.Actions.{next-act, act-covers}
 
 -- the walk from r up to m, of the records up to `end`, passes by a block that leaves the cell alone
 pub record Skipped (f : List ℕ) (c r m end : ℕ) : Type 0 where
-  pub passed : Block
+  pub passed : Block Action
   pub untouched : Untouched (layout-of f) c passed
   pub joins : passed then block-between f m end ≡ block-between f r end
   pub walk : Walkable f m end

@@ -7,6 +7,7 @@ use native.Nat.{ℕᴺ-discrete}
 use native.Mathlib.Omega.{arith}
 use borrow.Author.Tests.{eq-eqb, ne-eqb}
 use Rattle.model.specs.Sides.{span-of}
+use Rattle.model.specs.Records.{Action}
 use Rattle.model.specs.Blocks.{Block, done, act, branch, loop, _then_}
 use Rattle.model.proofs.Through.{then-done}
 use Rattle.model.proofs.Demand.Blocks.{then-assoc}
@@ -28,7 +29,7 @@ use Rattle.summary.proofs.Passing.{Skipped}
 
 -- t is what is found of the records from `from` up to r, of those up to `end`, for cell c
 pub record Prefix (f : List ℕ) (c from r end : ℕ) (start t : Found) : Type 0 where
-  pub before : Block
+  pub before : Block Action
   pub joins : before then block-between f r end ≡ block-between f from end
   pub ran : Found-in (layout-of f) c before (In (start .set)) (start .low) t
 
@@ -41,7 +42,7 @@ module _ (f : List ℕ) (c from end : ℕ) (start : Found) where
   prefix-none = record { before = done; joins = refl; ran = ran-none (layout-of f) c start }
 
   -- the records from r up to `next` make block b
-  pub prefix-more : (t t′ : Found) (r next : ℕ) (b : Block) → Prefix f c from r end start t → block-between f r end ≡ b then block-between f next end →
+  pub prefix-more : (t t′ : Found) (r next : ℕ) (b : Block Action) → Prefix f c from r end start t → block-between f r end ≡ b then block-between f next end →
       Found-in (layout-of f) c b (In (t .set)) (t .low) t′ → Prefix f c from next end start t′
   prefix-more t t′ r next b p e n = record {
     before = p .before then b;

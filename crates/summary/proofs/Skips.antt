@@ -4,6 +4,7 @@ use mathlib.Core.Path.{_≡_, refl, sym, subst, _∙_}
 use mathlib.Core.Logic.{inl, inr}
 use mathlib.Core.Bool.{true≢false}
 use Rattle.model.specs.Sides.{Layout}
+use Rattle.model.specs.Records.{Action}
 use Rattle.model.specs.Blocks.{Block, done, act, branch, loop}
 use Rattle.model.proofs.Status.{Status}
 use Rattle.model.proofs.Through.{Star, stay, more, Goes, Stops}
@@ -17,25 +18,25 @@ star-none h stay = refl
 star-none h {u} (more {w = w} r s) = h u w r ∙ star-none h s
 
 module _ (layout : Layout) (c : ℕ) where
-  abbrev pub Untouched : Block → Type 0
+  abbrev pub Untouched : Block Action → Type 0
   Untouched done = Unit {0}
   Untouched (act k x b) = Spares layout c x × Untouched b
   Untouched (branch k x y b) = Untouched x × Untouched y × Untouched b
   Untouched (loop k x b) = Untouched x × Untouched b
 
-  skip-goes : (b : Block) → Untouched b → (u v : Status) → Goes layout c b u v → u ≡ v
+  skip-goes : (b : Block Action) → Untouched b → (u v : Status) → Goes layout c b u v → u ≡ v
   skip-goes done h u v g = g
   skip-goes (act k x b) h u v g = sym (h .0 u .1) ∙ skip-goes b (h .1) _ v g
   skip-goes (branch k x y b) h u v g = elim (g .1) [ inl p ↦ skip-goes x (h .0) u (g .0) p | inr p ↦ skip-goes y (h .1) u (g .0) p ] ∙ skip-goes b (h .2) (g .0) v (g .2)
   skip-goes (loop k x b) h u v g = star-none (skip-goes x (h .0)) (g .1) ∙ skip-goes b (h .1) (g .0) v (g .2)
 
-  skip-stays : (b : Block) → Untouched b → (u : Status) → Goes layout c b u u
+  skip-stays : (b : Block Action) → Untouched b → (u : Status) → Goes layout c b u u
   skip-stays done h u = refl
   skip-stays (act k x b) h u = subst (λ w. Goes layout c b w u) (sym (h .0 u .1)) (skip-stays b (h .1) u)
   skip-stays (branch k x y b) h u = (u, inl (skip-stays x (h .0) u), skip-stays b (h .2) u)
   skip-stays (loop k x b) h u = (u, stay, skip-stays b (h .1) u)
 
-  skip-stops : (b : Block) → Untouched b → (u : Status) (r : ℕ) → Stops layout c b u r → ⊥
+  skip-stops : (b : Block Action) → Untouched b → (u : Status) (r : ℕ) → Stops layout c b u r → ⊥
   skip-stops done h u r s = s
   skip-stops (act k x b) h u r (inl s) = true≢false (sym (h .0 u .0) ∙ s .1)
   skip-stops (act k x b) h u r (inr s) = skip-stops b (h .1) _ r s
@@ -43,5 +44,5 @@ module _ (layout : Layout) (c : ℕ) where
   skip-stops (branch k x y b) h u r (inr s) = skip-stops b (h .2) (s .0) r (s .2)
   skip-stops (loop k x b) h u r s = elim (s .2) [ inl p ↦ skip-stops x (h .0) (s .0) r p | inr p ↦ skip-stops b (h .1) (s .0) r p ]
 
-  pub ran-skip : (b : Block) → Untouched b → (t : Found) → Found-in layout c b (In (t .set)) (t .low) t
+  pub ran-skip : (b : Block Action) → Untouched b → (t : Found) → Found-in layout c b (In (t .set)) (t .low) t
   ran-skip b h t = ran-iff (λ u v. (λ e. subst (Goes layout c b u) e (skip-stays b h u), skip-goes b h u v)) (λ u r. (λ s. absurd s, λ s. skip-stops b h u r s)) (ran-none layout c t)

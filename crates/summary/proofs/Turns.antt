@@ -7,6 +7,7 @@ use native.Mathlib.Omega.{arith}
 use lib.Dec.{eqb}
 use borrow.Author.Tests.{eqb-true}
 use Rattle.model.specs.Sides.{Layout}
+use Rattle.model.specs.Records.{Action}
 use Rattle.model.specs.Blocks.{Block, done, loop}
 use Rattle.model.proofs.Booleans.{or-out, and-out}
 use Rattle.model.proofs.Status.{Status}
@@ -22,7 +23,7 @@ star-last : {R : Status → Status → Type 0} {u w v : Status} → Star R u w �
 star-last stay r = more r stay
 star-last (more s t) r = more s (star-last t r)
 
-module _ (layout : Layout) (c : ℕ) (x : Block) (start : Found) where
+module _ (layout : Layout) (c : ℕ) (x : Block Action) (start : Found) where
   -- some of the statuses to start with reach w
   abbrev Reach : Status → Type 0
   Reach w = (u : Status) × In (start .set) u × Star (Goes layout c x) u w

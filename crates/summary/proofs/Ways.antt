@@ -51,7 +51,7 @@ start-in set b u = (λ e. index-one u at-start (eqb-true _ 10 (sym (b (index u) 
 
 module _ (layout : Layout) (c : ℕ) where
   -- t is what is found of a block
-  abbrev pub Found-in : Block → (Status → Type 0) → ℕ → Found → Type 0
+  abbrev pub Found-in : Block Action → (Status → Type 0) → ℕ → Found → Type 0
   Found-in b = Ran (Goes layout c b) (Stops layout c b)
 
   pub ran-none : (t : Found) → Found-in done (In (t .set)) (t .low) t
@@ -62,7 +62,7 @@ module _ (layout : Layout) (c : ℕ) where
     least = λ u r e s. absurd s;
   }
 
-  module _ (x b : Block) (from : Status → Type 0) (low : ℕ) (t t′ : Found) (m : Found-in x from low t) where
+  module _ (x b : Block Action) (from : Status → Type 0) (low : ℕ) (t t′ : Found) (m : Found-in x from low t) where
     pub ran-then : Found-in b (In (t .set)) (t .low) t′ → Found-in (x then b) from low t′
     ran-then n = record {
       exits = λ v. (

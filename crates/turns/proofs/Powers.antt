@@ -10,6 +10,7 @@ use native.Nat.{ℕᴺ-discrete}
 use lib.Dec.{eqb, ltb}
 use borrow.Author.Tests.{eqb-true, ltb-true}
 use Rattle.model.specs.Sides.{Layout}
+use Rattle.model.specs.Records.{Action}
 use Rattle.model.specs.Blocks.{Block}
 use Rattle.model.proofs.Booleans.{and-out}
 use Rattle.model.proofs.Status.{Status}
@@ -23,7 +24,7 @@ use Rattle.statuses.proofs.Statuses.{index-below, in-union}
 use Rattle.summary.proofs.Ways.{Found-in}
 
 -- one turn, status by status
-module _ (layout : Layout) (c : ℕ) (x : Block) (set low : ℕ) where
+module _ (layout : Layout) (c : ℕ) (x : Block Action) (set low : ℕ) where
   -- t is what is found from the statuses of the set that are no more to do
   pub record Part (t : Found) (todo : ℕ) : Type 0 where
     pub some : (v : Status) → In (t .set) v → (u : Status) × In set u × Goes layout c x u v
@@ -98,7 +99,7 @@ module _ (R : Status → Status → Type 0) where
   power-split (suc n) u v p = let q = power-split n (p .0) v (p .2) in (q .0, (p .0, p .1, q .1), q .2)
 
 -- the turns
-module _ (layout : Layout) (c : ℕ) (x : Block) (start : Found) where
+module _ (layout : Layout) (c : ℕ) (x : Block Action) (start : Found) where
   -- n turns lead from one of the statuses at the start to v
   abbrev Image : ℕ → Status → Type 0
   Image n v = (u : Status) × In (start .set) u × Power (Goes layout c x) n u v

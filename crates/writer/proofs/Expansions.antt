@@ -6,8 +6,9 @@ use native.Nat.{ℕᴺ-discrete}
 use native.Mathlib.Omega.{arith}
 use lib.ListN.{getD}
 use borrow.Author.Tests.{ne-eqb}
+use Rattle.model.specs.Records.{Action}
 use Rattle.model.specs.Blocks.{Block, size, _then_, numbered}
-use Rattle.model.specs.Judging.{Pass, Body0, no-pass, pass-of}
+use Rattle.model.specs.Judging.{Pass, no-pass, pass-of}
 use Rattle.model.specs.Expanding.{declared, expand}
 use Rattle.reading.specs.Bytes.{kind-of, body-count, records-in, fields-at, second-arm}
 use Rattle.format.specs.Plans.{pass-at, declared-plan-of}
@@ -49,14 +50,14 @@ module _ (f : List ℕ) (file : DeclaredFile f) where
   call-pass zero h l = absurd (omega arith)
   call-pass (suc b) h l = pass-entry passes b ∙ getD-table (λ c. pass-at f (suc c)) (body-count f - 1) b no-pass (omega arith)
 
-  called-then : (b : ℕ) → 1 ≤ b → b < body-count f → (rest : Block) → block-fields (declared (pass-of passes b .declarations) (pass-of passes b .body then rest)) ≡ block-fields (called f b) ++ block-fields rest
+  called-then : (b : ℕ) → 1 ≤ b → b < body-count f → (rest : Block Action) → block-fields (declared (pass-of passes b .declarations) (pass-of passes b .body then rest)) ≡ block-fields (called f b) ++ block-fields rest
   unfolding called
   called-then b h l rest =
       let d = pass-at f b in
       rw (call-pass b h l) (declared-fields (d .declarations) (d .body then rest) ∙ rw (then-fields (d .body) rest, declared-fields (d .declarations) (d .body), append-assoc))
 
   -- the expansion of a part of body 0
-  part : ℕ → ℕ → Block
+  part : ℕ → ℕ → Block Action
   part r end = expand passes (body0-between f r end)
 
   pieces-made : Made f 0 0 (pieces f) part
@@ -64,11 +65,11 @@ module _ (f : List ℕ) (file : DeclaredFile f) where
   pieces-made = record {
     none = λ r end h. ap (expand passes) (body0-none f r end h);
     nested = λ depth r end h m g u v. elim (ℕᴺ-discrete (fields-at f r .kind) 6) [
-      | yes e ↦ branch-fields _ 0 _ _ _ _ (ap (expand passes) (body0-branch f r end m (walk-of g) (fields-at f r) refl e)) e
+      | yes e ↦ branch-fields _ r _ _ _ _ (ap (expand passes) (body0-branch f r end m (walk-of g) (fields-at f r) refl e)) e
       | no z ↦
           let e : fields-at f r .kind ≡ 7 = omega arith in
           let s : second-arm (fields-at f r) ≡ 0 = rw (ne-eqb (fields-at f r .kind) 6 z) in
-          loop-fields _ 0 _ _ _ _ (ap (expand passes) (body0-loop f r end m (walk-of g) (fields-at f r) refl e)) (ap (expand passes) (body0-none f (second f r) (next f r) (omega arith))) e
+          loop-fields _ r _ _ _ _ (ap (expand passes) (body0-loop f r end m (walk-of g) (fields-at f r) refl e)) (ap (expand passes) (body0-none f (second f r) (next f r) (omega arith))) e
     ];
     grows = λ r h t u v. simp pieces-length (pieces-more f r ∙ rw (piece-nested f r (λ z. omega arith)));
     other = λ depth r end h m g i j.
@@ -78,7 +79,7 @@ module _ (f : List ℕ) (file : DeclaredFile f) where
         let a = no-arms (fields-at f r) i j in
         let step : next f r ≡ r + 1 = omega (arith, a) in
         let c = call-body f (fields-at f r) (q .tests .fits) e in
-        ap (λ (b : Body0). pieces f r ++ block-fields (expand passes b)) (body0-call f r end m (walk-of g) (fields-at f r) refl i j)
+        ap (λ (b : Block ℕ). pieces f r ++ block-fields (expand passes b)) (body0-call f r end m (walk-of g) (fields-at f r) refl i j)
         ∙ rw (pieces-more f r, piece-call f r e, append-assoc, step, called-then (fields-at f r .p) (c .0) (c .1) (expand passes (body0-between f (r + 1) end)));
   }
 

@@ -12,10 +12,10 @@ use Rattle.model.specs.Records.{Verb, read, write, copy, need, mark, kind, Acti
 use Rattle.model.specs.Blocks.{Block, size, numbered}
 use Rattle.reading.specs.declared.Fields.{Fields}
 use Rattle.reading.specs.Bytes.{first-arm, second-arm}
-use Rattle.format.specs.Plans.{side-of, verb-of, action-of, block-of}
-use Rattle.files.specs.Files.{fields, action-fields, block-fields}
+use Rattle.format.specs.Plans.{side-of, verb-of, action-of, call-of, block-of}
+use Rattle.files.specs.Files.{fields, action-fields, call-fields, fields-of, block-fields}
 use Rattle.files.proofs.Files.Holding.{more, Holds, front-part, back-at}
-use Rattle.files.proofs.Files.Records.{no-arms, fields-count}
+use Rattle.files.proofs.Files.Records.{no-arms, count-of}
 
 pub side-back : (s : Side) → side-of (side-number s) ≡ s
 side-back host = refl
@@ -40,51 +40,60 @@ no-holder copy = (refl, refl)
 no-holder need = (refl, refl)
 no-holder mark = (refl, refl)
 
-module _ (g : ℕ → Fields) where
-  reads-none : (fuel r end : ℕ) → end ≤ r → block-of fuel g r end ≡ Block.done
+-- leaves that read back, and are neither branch nor loop
+module _ {A : Type 0} (fields-in : A → Fields) (leaf : Fields → A) (back : (x : A) → leaf (fields-in x) ≡ x)
+    (plain : (x : A) → (eqb (fields-in x .kind) 6 ≡ false) × (eqb (fields-in x .kind) 7 ≡ false) × (first-arm (fields-in x) ≡ 0) × (second-arm (fields-in x) ≡ 0)) (g : ℕ → Fields) where
+  reads-none : (fuel r end : ℕ) → end ≤ r → block-of leaf fuel g r end ≡ Block.done
   unfolding block-of
   reads-none zero r end h = refl
   reads-none (suc fuel) r end h = rw (le-ltb r end h)
 
   module _ (fuel r end : ℕ) (h : r < end) where
-    reads-act : (x : Action) → g r ≡ action-fields x → block-of (suc fuel) g r end ≡ Block.act r x (block-of fuel g (suc r) end)
+    reads-act : (x : A) → g r ≡ fields-in x → block-of leaf (suc fuel) g r end ≡ Block.act r x (block-of leaf fuel g (suc r) end)
     unfolding block-of
     reads-act x e =
         let next : suc r + 0 + 0 ≡ suc r = omega arith in
-        rw (lt-ltb r end h, e, no-holder (x .verb) .0, no-holder (x .verb) .1, no-arms x .0, no-arms x .1, add-one r, next, action-back x)
+        rw (lt-ltb r end h, e, plain x .0, plain x .1, plain x .2, plain x .3, add-one r, next, back x)
 
     reads-branch : (n m : ℕ) → g r ≡ fields 6 0 0 n m
-        → block-of (suc fuel) g r end ≡ Block.branch r (block-of fuel g (suc r) (suc r + n)) (block-of fuel g (suc r + n) (suc r + n + m)) (block-of fuel g (suc r + n + m) end)
+        → block-of leaf (suc fuel) g r end ≡ Block.branch r (block-of leaf fuel g (suc r) (suc r + n)) (block-of leaf fuel g (suc r + n) (suc r + n + m)) (block-of leaf fuel g (suc r + n + m) end)
     unfolding block-of first-arm second-arm
     reads-branch n m e = rw (lt-ltb r end h, e, add-one r)
 
-    reads-loop : (n : ℕ) → g r ≡ fields 7 0 0 n 0 → block-of (suc fuel) g r end ≡ Block.loop r (block-of fuel g (suc r) (suc r + n)) (block-of fuel g (suc r + n) end)
+    reads-loop : (n : ℕ) → g r ≡ fields 7 0 0 n 0 → block-of leaf (suc fuel) g r end ≡ Block.loop r (block-of leaf fuel g (suc r) (suc r + n)) (block-of leaf fuel g (suc r + n) end)
     unfolding block-of first-arm second-arm
     reads-loop n e = rw (lt-ltb r end h, e, add-one r, add-zero)
 
-  pub block-reads : (x : Block) (fuel r : ℕ) → size x ≤ fuel → Holds g r (block-fields x) → block-of fuel g r (r + size x) ≡ numbered r x
-  block-reads Block.done fuel r k h = reads-none fuel r (r + 0) (omega arith)
-  block-reads (Block.act _ x t) zero r k h = absurd (omega arith)
-  block-reads (Block.act _ x t) (suc fuel) r k (more e h) =
+  pub reads-of : (x : Block A) (fuel r : ℕ) → size x ≤ fuel → Holds g r (fields-of fields-in x) → block-of leaf fuel g r (r + size x) ≡ numbered r x
+  reads-of Block.done fuel r k h = reads-none fuel r (r + 0) (omega arith)
+  reads-of (Block.act _ x t) zero r k h = absurd (omega arith)
+  reads-of (Block.act _ x t) (suc fuel) r k (more e h) =
       let end : suc r + size t ≡ r + suc (size t) = omega arith in
-      reads-act fuel r (r + suc (size t)) (omega arith) x e ∙ rw (← end, block-reads t fuel (suc r) (omega arith) h)
-  block-reads (Block.branch _ x y t) zero r k h = absurd (omega arith)
-  block-reads (Block.branch _ x y t) (suc fuel) r k (more e h) =
+      reads-act fuel r (r + suc (size t)) (omega arith) x e ∙ rw (← end, reads-of t fuel (suc r) (omega arith) h)
+  reads-of (Block.branch _ x y t) zero r k h = absurd (omega arith)
+  reads-of (Block.branch _ x y t) (suc fuel) r k (more e h) =
       let end : suc r + size x + size y + size t ≡ r + suc (size x + size y + size t) = omega arith in
-      let h′ = back-at (block-fields x) (size x) (fields-count x) h in
+      let h′ = back-at (fields-of fields-in x) (size x) (count-of fields-in x) h in
       reads-branch fuel r (r + suc (size x + size y + size t)) (omega arith) (size x) (size y) e
       ∙ rw (
         ← end,
-        block-reads x fuel (suc r) (omega arith) (front-part (block-fields x) _ h),
-        block-reads y fuel (suc r + size x) (omega arith) (front-part (block-fields y) _ h′),
-        block-reads t fuel (suc r + size x + size y) (omega arith) (back-at (block-fields y) (size y) (fields-count y) h′),
+        reads-of x fuel (suc r) (omega arith) (front-part (fields-of fields-in x) _ h),
+        reads-of y fuel (suc r + size x) (omega arith) (front-part (fields-of fields-in y) _ h′),
+        reads-of t fuel (suc r + size x + size y) (omega arith) (back-at (fields-of fields-in y) (size y) (count-of fields-in y) h′),
       )
-  block-reads (Block.loop _ x t) zero r k h = absurd (omega arith)
-  block-reads (Block.loop _ x t) (suc fuel) r k (more e h) =
+  reads-of (Block.loop _ x t) zero r k h = absurd (omega arith)
+  reads-of (Block.loop _ x t) (suc fuel) r k (more e h) =
       let end : suc r + size x + size t ≡ r + suc (size x + size t) = omega arith in
       reads-loop fuel r (r + suc (size x + size t)) (omega arith) (size x) e
       ∙ rw (
         ← end,
-        block-reads x fuel (suc r) (omega arith) (front-part (block-fields x) _ h),
-        block-reads t fuel (suc r + size x) (omega arith) (back-at (block-fields x) (size x) (fields-count x) h),
+        reads-of x fuel (suc r) (omega arith) (front-part (fields-of fields-in x) _ h),
+        reads-of t fuel (suc r + size x) (omega arith) (back-at (fields-of fields-in x) (size x) (count-of fields-in x) h),
       )
+
+pub block-reads : (g : ℕ → Fields) (x : Block Action) (fuel r : ℕ) → size x ≤ fuel → Holds g r (block-fields x) → block-of action-of fuel g r (r + size x) ≡ numbered r x
+block-reads = reads-of action-fields action-of action-back (λ x. (no-holder (x .verb) .0, no-holder (x .verb) .1, no-arms x .0, no-arms x .1))
+
+pub body0-reads : (g : ℕ → Fields) (x : Block ℕ) (fuel r : ℕ) → size x ≤ fuel → Holds g r (fields-of call-fields x) → block-of call-of fuel g r (r + size x) ≡ numbered r x
+unfolding first-arm second-arm
+body0-reads = reads-of call-fields call-of (λ b. refl) (λ b. (refl, refl, refl, refl))

@@ -1,6 +1,6 @@
 -- The rows of records pass where the records are those of a block within the bounds.
 use mathlib.Core.Path.{_≡_, refl}
-use mathlib.Core.Bool.{true, false, _&&_, false≢true}
+use mathlib.Core.Bool.{Bool, true, false, _&&_, false≢true}
 use mathlib.Core.List.{List, _++_}
 use Prim.Native.Nat.{ℕ, zero, suc, _+_, _≤_, _<_}
 use native.Mathlib.Omega.{arith}
@@ -8,21 +8,21 @@ use native.Mathlib.Numerals.{add-one}
 use native.Mathlib.Nat.{add-zero}
 use lib.ListN.{length, length-append}
 use lib.Dec.{ltb, leb, eqb}
-use borrow.Author.Tests.{lt-ltb, le-ltb, ltb-true}
+use borrow.Author.Tests.{lt-ltb, le-ltb, le-leb, ltb-true}
 use Rattle.model.specs.Sides.{Side, host, card, side-number, span-of, Layout}
 use Rattle.model.specs.Records.{Verb, read, write, copy, need, mark, kind, Action}
 use Rattle.model.specs.Blocks.{Block, size}
-use Rattle.model.proofs.Booleans.{and-out}
+use Rattle.model.proofs.Booleans.{and-out, and-in}
 use Rattle.model.proofs.Stamps.{as-verb}
 use Rattle.reading.specs.declared.Fields.{Fields}
 use Rattle.reading.specs.Bytes.{array-count, length-at, fields-at, between, first-arm, second-arm}
 use Rattle.rules.specs.Rules.{fields-fit, allowed, deepest, record-rows}
 use Rattle.records.specs.Records.{block-rows}
-use Rattle.files.specs.Files.{fields, action-fields, block-fields}
-use Rattle.files.specs.Bounds.{cells-fit, action-fits, block-fits}
+use Rattle.files.specs.Files.{fields, action-fields, fields-of, block-fields}
+use Rattle.files.specs.Bounds.{cells-fit, action-fits, nested-within, block-fits}
 use Rattle.files.proofs.Files.Holding.{more, Holds, front-part, back-at}
 use Rattle.files.proofs.Files.Places.{Arrayed, array-length}
-use Rattle.files.proofs.Files.Accepting.{Passes, passes-none, passes-row, passes-append}
+use Rattle.files.proofs.Files.Accepting.{Passes, passes-none, passes-row, passes-append, within-bounds}
 
 module _ (f : List ℕ) (b : ℕ) where
   -- the rows of the records r up to `end` pass, whatever the fuel
@@ -98,12 +98,52 @@ no-arms x = go (x .verb)
     go mark = (refl, refl)
 
 -- a block's records are as many as its size
-pub fields-count : (x : Block) → length (block-fields x) ≡ size x
-fields-count Block.done = refl
-fields-count (Block.act r x b) = rw (fields-count b)
-fields-count (Block.branch r x y b) =
-    omega (arith, fields-count x, fields-count y, fields-count b, length-append (block-fields x) (block-fields y ++ block-fields b), length-append (block-fields y) (block-fields b))
-fields-count (Block.loop r x b) = omega (arith, fields-count x, fields-count b, length-append (block-fields x) (block-fields b))
+pub count-of : {A : Type 0} (leaf : A → Fields) (x : Block A) → length (fields-of leaf x) ≡ size x
+count-of leaf Block.done = refl
+count-of leaf (Block.act r x b) = rw (count-of leaf b)
+count-of leaf (Block.branch r x y b) =
+    omega (arith, count-of leaf x, count-of leaf y, count-of leaf b, length-append (fields-of leaf x) (fields-of leaf y ++ fields-of leaf b), length-append (fields-of leaf y) (fields-of leaf b))
+count-of leaf (Block.loop r x b) = omega (arith, count-of leaf x, count-of leaf b, length-append (fields-of leaf x) (fields-of leaf b))
+
+pub fields-count : (x : Block Action) → length (block-fields x) ≡ size x
+fields-count x = count-of action-fields x
+
+-- a record that is neither branch nor loop, and may stand at r
+pub record PlainAt (f : List ℕ) (b r : ℕ) (x : Fields) : Type 0 where
+  pub fits : fields-fit f x ≡ true
+  pub may : allowed f b r x ≡ true
+  pub one : first-arm x ≡ 0
+  pub two : second-arm x ≡ 0
+  pub kind : between 6 7 (x .kind) ≡ false
+
+-- a block whose leaves are such records from `low` on, where branches and loops may stand
+module _ {A : Type 0} (leaf : A → Fields) (fits : A → Bool) (f : List ℕ) (b low : ℕ) (holds : (r : ℕ) (x : Fields) → low ≤ r → between 6 7 (x .kind) ≡ true → allowed f b r x ≡ true)
+    (plain : (x : A) (r : ℕ) → low ≤ r → fits x ≡ true → PlainAt f b r (leaf x)) where
+  pub walks-of : (x : Block A) (levels depth r : ℕ) → nested-within fits levels x ≡ true → depth + levels ≤ deepest f + 1 → low ≤ r → Holds (fields-at f) r (fields-of leaf x) → Walks f b depth r (r + size x)
+  walks-of Block.done levels depth r e d l h = at-end f b depth r (r + 0) (omega arith)
+  walks-of (Block.act _ x t) levels depth r e d l (more x-is h) =
+      let fit = and-out (fits x) (nested-within fits levels t) e in
+      let p = plain x r l (fit .0) in
+      let next : suc r + size t ≡ r + suc (size t) = omega arith in
+      at-plain f b depth r (r + suc (size t)) (leaf x) x-is (p .fits) (p .may) (p .one) (p .two) (p .kind) (omega arith)
+      (rw next at (walks-of t levels depth (suc r) (fit .1) d (omega arith) h))
+  walks-of (Block.branch _ x y t) zero depth r e d l h = absurd (false≢true e)
+  walks-of (Block.branch _ x y t) (suc levels) depth r e d l (more x-is h) =
+      let fit = and-out (nested-within fits levels x) (nested-within fits levels y && nested-within fits (suc levels) t) e in
+      let fit′ = and-out (nested-within fits levels y) (nested-within fits (suc levels) t) (fit .1) in
+      let h′ = back-at (fields-of leaf x) (size x) (count-of leaf x) h in
+      let next : suc r + size x + size y + size t ≡ r + suc (size x + size y + size t) = omega arith in
+      at-branch f b depth r (r + suc (size x + size y + size t)) (size x) (omega arith) (size y) x-is (holds r (fields 6 0 0 (size x) (size y)) l refl) (omega arith)
+      (walks-of x levels (depth + 1) (suc r) (fit .0) (omega arith) (omega arith) (front-part (fields-of leaf x) _ h))
+      (walks-of y levels (depth + 1) (suc r + size x) (fit′ .0) (omega arith) (omega arith) (front-part (fields-of leaf y) _ h′))
+      (rw next at (walks-of t (suc levels) depth (suc r + size x + size y) (fit′ .1) d (omega arith) (back-at (fields-of leaf y) (size y) (count-of leaf y) h′)))
+  walks-of (Block.loop _ x t) zero depth r e d l h = absurd (false≢true e)
+  walks-of (Block.loop _ x t) (suc levels) depth r e d l (more x-is h) =
+      let fit = and-out (nested-within fits levels x) (nested-within fits (suc levels) t) e in
+      let next : suc r + size x + size t ≡ r + suc (size x + size t) = omega arith in
+      at-loop f b depth r (r + suc (size x + size t)) (size x) (omega arith) x-is (holds r (fields 7 0 0 (size x) 0) l refl) (omega arith)
+      (walks-of x levels (depth + 1) (suc r) (fit .0) (omega arith) (omega arith) (front-part (fields-of leaf x) _ h))
+      (rw next at (walks-of t (suc levels) depth (suc r + size x) (fit .1) d (omega arith) (back-at (fields-of leaf x) (size x) (count-of leaf x) h)))
 
 -- where the arrays are these, and the records from `low` on may be of the kinds 1 to 7
 module _ (f : List ℕ) (b low : ℕ) (layout : Layout) (arrayed : Arrayed f layout)
@@ -132,28 +172,13 @@ module _ (f : List ℕ) (b low : ℕ) (layout : Layout) (arrayed : Arrayed f lay
       go need u = unused u
       go mark u = unused u
 
-  pub block-walks : (x : Block) (levels depth r : ℕ) → block-fits layout levels x ≡ true → depth + levels ≤ deepest f + 1 → low ≤ r → Holds (fields-at f) r (block-fields x) → Walks f b depth r (r + size x)
-  block-walks Block.done levels depth r e d l h = at-end f b depth r (r + 0) (omega arith)
-  block-walks (Block.act _ x t) levels depth r e d l (more x-is h) =
-      let fit = and-out (action-fits layout x) (block-fits layout levels t) e in
-      let kinds = action-kind (x .verb) in
-      let next : suc r + size t ≡ r + suc (size t) = omega arith in
-      at-plain f b depth r (r + suc (size t)) (action-fields x) x-is (action-fit x (fit .0)) (may r (action-fields x) l (kinds .0)) (no-arms x .0) (no-arms x .1) (kinds .1) (omega arith)
-      (rw next at (block-walks t levels depth (suc r) (fit .1) d (omega arith) h))
-  block-walks (Block.branch _ x y t) zero depth r e d l h = absurd (false≢true e)
-  block-walks (Block.branch _ x y t) (suc levels) depth r e d l (more x-is h) =
-      let fit = and-out (block-fits layout levels x) (block-fits layout levels y && block-fits layout (suc levels) t) e in
-      let fit′ = and-out (block-fits layout levels y) (block-fits layout (suc levels) t) (fit .1) in
-      let h′ = back-at (block-fields x) (size x) (fields-count x) h in
-      let next : suc r + size x + size y + size t ≡ r + suc (size x + size y + size t) = omega arith in
-      at-branch f b depth r (r + suc (size x + size y + size t)) (size x) (omega arith) (size y) x-is (may r (fields 6 0 0 (size x) (size y)) l refl) (omega arith)
-      (block-walks x levels (depth + 1) (suc r) (fit .0) (omega arith) (omega arith) (front-part (block-fields x) _ h))
-      (block-walks y levels (depth + 1) (suc r + size x) (fit′ .0) (omega arith) (omega arith) (front-part (block-fields y) _ h′))
-      (rw next at (block-walks t (suc levels) depth (suc r + size x + size y) (fit′ .1) d (omega arith) (back-at (block-fields y) (size y) (fields-count y) h′)))
-  block-walks (Block.loop _ x t) zero depth r e d l h = absurd (false≢true e)
-  block-walks (Block.loop _ x t) (suc levels) depth r e d l (more x-is h) =
-      let fit = and-out (block-fits layout levels x) (block-fits layout (suc levels) t) e in
-      let next : suc r + size x + size t ≡ r + suc (size x + size t) = omega arith in
-      at-loop f b depth r (r + suc (size x + size t)) (size x) (omega arith) x-is (may r (fields 7 0 0 (size x) 0) l refl) (omega arith)
-      (block-walks x levels (depth + 1) (suc r) (fit .0) (omega arith) (omega arith) (front-part (block-fields x) _ h))
-      (rw next at (block-walks t (suc levels) depth (suc r + size x) (fit .1) d (omega arith) (back-at (block-fields x) (size x) (fields-count x) h)))
+  pub block-walks : (x : Block Action) (levels depth r : ℕ) → block-fits layout levels x ≡ true → depth + levels ≤ deepest f + 1 → low ≤ r → Holds (fields-at f) r (block-fields x) → Walks f b depth r (r + size x)
+  block-walks = walks-of action-fields (action-fits layout) f b low (λ r x l e. may r x l (held-kind (x .kind) e)) plain
+    where
+      held-kind : (k : ℕ) → between 6 7 k ≡ true → between 1 7 k ≡ true
+      held-kind k e = let h = within-bounds 6 7 k e in and-in (leb 1 k) (leb k 7) (le-leb 1 k (omega arith)) (le-leb k 7 (h .1))
+
+      plain : (x : Action) (r : ℕ) → low ≤ r → action-fits layout x ≡ true → PlainAt f b r (action-fields x)
+      plain x r l e =
+          let kinds = action-kind (x .verb) in
+          record { fits = action-fit x e; may = may r (action-fields x) l (kinds .0); one = no-arms x .0; two = no-arms x .1; kind = kinds .1 }

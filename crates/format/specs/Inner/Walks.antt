@@ -5,13 +5,13 @@ use Prim.Native.Nat.{ℕ, _+_, _≤_}
 use lib.ListN.{getD}
 use Rattle.model.specs.declared.Verdict.the-variants.{Accepted}
 use Rattle.model.specs.Sides.{span-of}
+use Rattle.model.specs.Records.{Action}
 use Rattle.model.specs.Blocks.{Block}
-use Rattle.model.specs.Judging.{Body0}
 use Rattle.model.specs.Rows.{first}
 use Rattle.reading.specs.Bytes.{kind-of, array-count, layout-of, bodies-at, fields-at}
 use Rattle.records.specs.Records.{block-rows}
 use Rattle.format.specs.Opening.{opening}
-use Rattle.format.specs.Plans.{block-of, body0-of}
+use Rattle.format.specs.Plans.{action-of, call-of, block-of}
 
 -- the file opens and its plan is plain; `bodies` is where its bodies begin
 pub record Plain (f : List ℕ) (bodies : ℕ) : Type 0 where
@@ -35,10 +35,9 @@ pub record Walkable (f : List ℕ) (r end : ℕ) : Type 0 where
   pub depth : ℕ
   pub good : Good f body depth r end
 
--- the block of the records r up to `end`
-unfoldable pub block-between : List ℕ → ℕ → ℕ → Block
-block-between f r end = block-of end (fields-at f) r end
+-- the block of the records r up to `end`, of actions and of calls
+unfoldable pub block-between : List ℕ → ℕ → ℕ → Block Action
+block-between f r end = block-of action-of end (fields-at f) r end
 
--- the part of body 0 that they are
-unfoldable pub body0-between : List ℕ → ℕ → ℕ → Body0
-body0-between f r end = body0-of end (fields-at f) r end
+unfoldable pub body0-between : List ℕ → ℕ → ℕ → Block ℕ
+body0-between f r end = block-of call-of end (fields-at f) r end

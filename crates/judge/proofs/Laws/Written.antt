@@ -8,6 +8,7 @@ use native.Mathlib.Omega.{arith}
 use lib.Dec.{eqb}
 use lib.ListN.{getD, replicate}
 use Rattle.model.specs.Sides.{Side, Layout, span-of}
+use Rattle.model.specs.Records.{Action}
 use Rattle.model.specs.Blocks.{Block}
 use Rattle.model.specs.Judging.{always-writes}
 use Rattle.model.proofs.Numbering.{array-from, array-ends}
@@ -27,7 +28,7 @@ use Rattle.permits.proofs.ByArray.{side-kept}
 use Rattle.marks.proofs.Marks.{none-marked}
 
 -- cells that are marked exactly if they are always written
-all-same : (layout : Layout) (s : Side) (body : Block) (l : List Bool) (c n : ℕ) → ((k : ℕ) → c ≤ k → k < c + n → marked l k ≡ always-writes layout s k body) → all-marked l c n ≡ all-written layout s body c n
+all-same : (layout : Layout) (s : Side) (body : Block Action) (l : List Bool) (c n : ℕ) → ((k : ℕ) → c ≤ k → k < c + n → marked l k ≡ always-writes layout s k body) → all-marked l c n ≡ all-written layout s body c n
 unfolding all-marked all-written
 all-same layout s body l c zero h = refl
 all-same layout s body l c (suc n) h = rw (h c (omega arith) (omega arith), all-same layout s body l (suc c) n (λ k u v. h k (omega arith) (omega arith)))

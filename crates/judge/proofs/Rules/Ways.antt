@@ -7,6 +7,7 @@ use Prim.Native.Nat.{ℕ, zero, suc, _+_, _-_, _<_}
 use native.Mathlib.Nat.{add-zero}
 use native.Mathlib.Omega.{arith}
 use Rattle.model.specs.Sides.{Side, Layout, span-of}
+use Rattle.model.specs.Records.{Action}
 use Rattle.model.specs.Blocks.{Block}
 use Rattle.model.specs.Judging.{Declaration, Written, Leaves, always-writes}
 use Rattle.model.proofs.Booleans.{and-in, and-out, and-none}
@@ -15,7 +16,7 @@ use Rattle.model.proofs.Written.{unwritten, always-written}
 use Rattle.judge.specs.Judged.{all-written}
 
 -- all cells are written exactly if each of them is
-module _ (layout : Layout) (s : Side) (body : Block) where
+module _ (layout : Layout) (s : Side) (body : Block Action) where
   abbrev always : ℕ → Bool
   always c = always-writes layout s c body
 
@@ -30,7 +31,7 @@ module _ (layout : Layout) (s : Side) (body : Block) where
   each-true c (suc n) zero e l = rw add-zero (and-out (always c) _ e .0)
   each-true c (suc n) (suc k) e l = let z : c + suc k ≡ suc c + k = omega arith in rw z (each-true (suc c) n k (and-out (always c) _ e .1) (omega arith))
 
-pub written-cells : (layout : Layout) (body : Block) (d : Declaration) → (all-written layout (d .side) body (span-of layout (d .array) .first) (span-of layout (d .array) .length) ≡ true) ↔ Written layout body d
+pub written-cells : (layout : Layout) (body : Block Action) (d : Declaration) → (all-written layout (d .side) body (span-of layout (d .array) .first) (span-of layout (d .array) .length) ≡ true) ↔ Written layout body d
 written-cells layout body d = (
   λ e c l cs ds w h.
       let first = span-of layout (d .array) .first in
@@ -43,12 +44,12 @@ written-cells layout body d = (
 )
 
 -- one that is not written on every way, where not all are
-record Missed (layout : Layout) (s : Side) (body : Block) (c n : ℕ) : Type 0 where
+record Missed (layout : Layout) (s : Side) (body : Block Action) (c n : ℕ) : Type 0 where
   index : ℕ
   low : index < n
   missed : always-writes layout s (c + index) body ≡ false
 
-first-missed : (layout : Layout) (s : Side) (body : Block) (c n : ℕ) → all-written layout s body c n ≡ false → Missed layout s body c n
+first-missed : (layout : Layout) (s : Side) (body : Block Action) (c n : ℕ) → all-written layout s body c n ≡ false → Missed layout s body c n
 unfolding all-written
 first-missed layout s body c zero e = absurd (true≢false e)
 first-missed layout s body c (suc n) e = go (and-none (always-writes layout s c body) _ e) (first-missed layout s body (suc c) n)
@@ -61,7 +62,7 @@ first-missed layout s body c (suc n) e = go (and-none (always-writes layout s c 
         let z : c + suc (m .index) ≡ suc c + m .index = omega arith in
         record { index = suc (m .index); low = omega (arith, m .low); missed = rw z (m .missed) }
 
-pub left-cells : (layout : Layout) (body : Block) (d : Declaration) → (all-written layout (d .side) body (span-of layout (d .array) .first) (span-of layout (d .array) .length) ≡ false) ↔ Leaves layout body d
+pub left-cells : (layout : Layout) (body : Block Action) (d : Declaration) → (all-written layout (d .side) body (span-of layout (d .array) .first) (span-of layout (d .array) .length) ≡ false) ↔ Leaves layout body d
 left-cells layout body d = (
   λ e.
       let first = span-of layout (d .array) .first in

@@ -1,4 +1,4 @@
--- One block, or one body 0, and then another: the expansion and the judge's tests of it.
+-- One block and then another: the expansion and the judge's tests of it.
 use Prim.Native.Nat.{ℕ}
 use mathlib.Core.Path.{_≡_, refl, ap, sym, _∙_}
 use mathlib.Core.Logic.{_⊎_, inl, inr}
@@ -7,25 +7,17 @@ use mathlib.Core.Bool.{Bool, true, false, cond, _&&_, _||_, and-assoc, or-assoc}
 use Rattle.model.specs.Sides.{Side, Layout}
 use Rattle.model.specs.Records.{Action}
 use Rattle.model.specs.Blocks.{Block, act, branch, loop, _then_}
-use Rattle.model.specs.Judging.{Mode, R, W, RW, Declaration, Pass, Body0, pass-of, every, always-writes}
+use Rattle.model.specs.Judging.{Mode, R, W, RW, Declaration, Pass, pass-of, every, always-writes}
 use Rattle.model.specs.Expanding.{given, declared, expand}
 use Rattle.model.proofs.Booleans.{or-out, or-left, or-right, and-out, and-in}
 
-pub then-assoc : (a b c : Block) → (a then b) then c ≡ a then (b then c)
+pub then-assoc : {A : Type 0} (a b c : Block A) → (a then b) then c ≡ a then (b then c)
 then-assoc Block.done b c = refl
 then-assoc (act r x a) b c = ap (act r x) (then-assoc a b c)
 then-assoc (branch r x y a) b c = ap (branch r x y) (then-assoc a b c)
 then-assoc (loop r x a) b c = ap (loop r x) (then-assoc a b c)
 
--- one body 0 and then another
-infixr 60 _before_
-abbrev pub _before_ : Body0 → Body0 → Body0
-Body0.done before u = u
-(Body0.call b t) before u = Body0.call b (t before u)
-(Body0.branch x y t) before u = Body0.branch x y (t before u)
-(Body0.loop x t) before u = Body0.loop x (t before u)
-
-declared-then : (ds : List Declaration) (a b : Block) → declared ds a then b ≡ declared ds (a then b)
+declared-then : (ds : List Declaration) (a b : Block Action) → declared ds a then b ≡ declared ds (a then b)
 declared-then [] a b = refl
 declared-then (d ∷ ds) a b = go (d .mode) ∙ ap (given (d .mode) (d .side) (d .array)) (declared-then ds a b)
   where
@@ -35,25 +27,25 @@ declared-then (d ∷ ds) a b = go (d .mode) ∙ ap (given (d .mode) (d .side) (d
     go RW = refl
 
 module _ (passes : List Pass) where
-  pub expand-before : (t u : Body0) → expand passes (t before u) ≡ expand passes t then expand passes u
-  expand-before Body0.done u = refl
-  expand-before (Body0.call b t) u =
+  pub expand-then : (t u : Block ℕ) → expand passes (t then u) ≡ expand passes t then expand passes u
+  expand-then Block.done u = refl
+  expand-then (act r b t) u =
       let p = pass-of passes b in
-      ap (λ l. declared (p .declarations) (p .body then l)) (expand-before t u)
+      ap (λ l. declared (p .declarations) (p .body then l)) (expand-then t u)
       ∙ ap (declared (p .declarations)) (sym (then-assoc (p .body) (expand passes t) (expand passes u)))
       ∙ sym (declared-then (p .declarations) (p .body then expand passes t) (expand passes u))
-  expand-before (Body0.branch x y t) u = ap (branch 0 (expand passes x) (expand passes y)) (expand-before t u)
-  expand-before (Body0.loop x t) u = ap (loop 0 (expand passes x)) (expand-before t u)
+  expand-then (branch r x y t) u = ap (branch r (expand passes x) (expand passes y)) (expand-then t u)
+  expand-then (loop r x t) u = ap (loop r (expand passes x)) (expand-then t u)
 
 -- what every record of a block passes, every record passes of what is left after a choice
 module _ (f : Action → Bool) where
-  every-then : (a b : Block) → every f (a then b) ≡ (every f a && every f b)
+  every-then : (a b : Block Action) → every f (a then b) ≡ (every f a && every f b)
   every-then Block.done b = refl
   every-then (act r x a) b = simp (every-then a b, and-assoc)
   every-then (branch r x y a) b = simp (every-then a b, and-assoc)
   every-then (loop r x a) b = simp (every-then a b, and-assoc)
 
-  pub every-branch : (r : ℕ) (c : Bool) (x y b : Block) → every f (branch r x y b) ≡ true → every f (cond c x y then b) ≡ true
+  pub every-branch : (r : ℕ) (c : Bool) (x y b : Block Action) → every f (branch r x y b) ≡ true → every f (cond c x y then b) ≡ true
   every-branch r c x y b e = let g = and-out (every f x) _ e in let h = and-out (every f y) (every f b) (g .1) in
       rw (every-then (cond c x y) b) (and-in _ (every f b) (arm c (g .0) (h .0)) (h .1))
     where
@@ -61,22 +53,22 @@ module _ (f : Action → Bool) where
       arm true g h = g
       arm false g h = h
 
-  pub every-loop : (r : ℕ) (c : Bool) (x b : Block) → every f (loop r x b) ≡ true → every f (cond c (x then loop r x b) b) ≡ true
+  pub every-loop : (r : ℕ) (c : Bool) (x b : Block Action) → every f (loop r x b) ≡ true → every f (cond c (x then loop r x b) b) ≡ true
   every-loop r true x b e = rw (every-then x (loop r x b)) (and-in (every f x) _ (and-out (every f x) (every f b) e .0) e)
   every-loop r false x b e = and-out (every f x) (every f b) e .1
 
 -- a block that always writes a cell does so after a choice
 module _ (layout : Layout) (s : Side) (n : ℕ) where
-  abbrev always : Block → Bool
+  abbrev always : Block Action → Bool
   always = always-writes layout s n
 
-  always-then : (a b : Block) → always (a then b) ≡ (always a || always b)
+  always-then : (a b : Block Action) → always (a then b) ≡ (always a || always b)
   always-then Block.done b = refl
   always-then (act r x a) b = simp (always-then a b, or-assoc)
   always-then (branch r x y a) b = simp (always-then a b, or-assoc)
   always-then (loop r x a) b = always-then a b
 
-  pub always-branch : (r : ℕ) (c : Bool) (x y b : Block) → always-writes layout s n (branch r x y b) ≡ true →
+  pub always-branch : (r : ℕ) (c : Bool) (x y b : Block Action) → always-writes layout s n (branch r x y b) ≡ true →
       always-writes layout s n (cond c x y then b) ≡ true
   always-branch r c x y b e = rw (always-then (cond c x y) b) (go (or-out (always x && always y) (always b) e))
     where
@@ -88,7 +80,7 @@ module _ (layout : Layout) (s : Side) (n : ℕ) where
       go (inl g) = or-left (always (cond c x y)) (always b) (arm c (and-out (always x) (always y) g))
       go (inr g) = or-right (always (cond c x y)) (always b) g
 
-  pub always-loop : (r : ℕ) (c : Bool) (x b : Block) → always-writes layout s n (loop r x b) ≡ true →
+  pub always-loop : (r : ℕ) (c : Bool) (x b : Block Action) → always-writes layout s n (loop r x b) ≡ true →
       always-writes layout s n (cond c (x then loop r x b) b) ≡ true
   always-loop r true x b e = rw (always-then x (loop r x b)) (or-right (always x) (always b) e)
   always-loop r false x b e = e

@@ -184,11 +184,11 @@ module _ (layout : Layout) (c : ℕ) where
       go false = e
 
   -- in pass p, with its declarations ds still to make and its block b left
-  abbrev pub CoherentIn : Pass → Block → List Declaration → State → Type 0
+  abbrev pub CoherentIn : Pass → Block Action → List Declaration → State → Type 0
   CoherentIn p b ds σ = Coherent (p .declarations) own (λ t. always-writes layout t c b) (any (is-of own) ds) (at-cell σ)
 
   -- a declaration of array a on side s, before the declarations ds
-  module _ (p : Pass) (b : Block) (s : Side) (a : ℕ) (ds : List Declaration) where
+  module _ (p : Pass) (b : Block Action) (s : Side) (a : ℕ) (ds : List Declaration) where
     pub undeclared : (m : Mode) → array-of layout c ≡ a → any (is-of (array-of layout c)) (declaration m s a ∷ ds) ≡ true
     undeclared m q = rw (eq-eqb a own (sym q))
 
@@ -275,7 +275,7 @@ module _ (layout : Layout) (c : ℕ) where
             (λ t f. if-flagged q t (sym (flags q t) ∙ f)) (λ g. marked s a σ s (r q g)) (λ w. flags q (other s) ∙ is-other s)
         go (inr e) = other-coherent m σ (effect layout (whole-of mark s a) σ) e (other-same (whole-of mark s a) σ e) k
 
-  act-coherent : (p : Pass) (r : ℕ) (b : Block) (x : Action) (σ : State) → permits (p .declarations) x ≡ true → CoherentIn p (act r x b) [] σ →
+  act-coherent : (p : Pass) (r : ℕ) (b : Block Action) (x : Action) (σ : State) → permits (p .declarations) x ≡ true → CoherentIn p (act r x b) [] σ →
       CoherentIn p b [] (effect layout x σ)
   act-coherent p r b x σ e k = go (x .verb) e k
     where
@@ -315,7 +315,7 @@ module _ (plan : DeclaredPlan) (cs : List Bool) (ok : Accepts plan) (c : ℕ) (i
   layout = plan .layout
 
   -- where W is declared, what the pass has not written is pending
-  pending : {p : Pass} {s : Side} {a : ℕ} {ds : List Declaration} {b : Block} → Judged layout p (declaration W s a ∷ ds) b → array-of layout c ≡ a →
+  pending : {p : Pass} {s : Side} {a : ℕ} {ds : List Declaration} {b : Block Action} → Judged layout p (declaration W s a ∷ ds) b → array-of layout c ≡ a →
       always-writes layout s c (p .body) ≡ true
   pending {p} {s} j q = always-written layout s c (p .body) .1 (j .rules .0 .written refl c (rw q at (own-span layout c inside)))
 

@@ -13,7 +13,7 @@ use Rattle.model.specs.Records.{Verb, read, write, copy, need, mark, Act
 use Rattle.model.specs.Effects.{Flags, State, current, Deed, needs as needs-cell, met, effect}
 use Rattle.model.specs.Blocks.{Block, act, branch, loop, _then_}
 use Rattle.model.specs.Runs.{Event, Config, Ending, finished, stopped, out-of-choices, Step, next, ends, carry, lowest-unmet, stop-or, step, here, onward, Run, Ends}
-use Rattle.model.specs.Judging.{Mode, R, W, RW, Declaration, Pass, Body0, DeclaredPlan, no-pass, pass-of, permits, Accepts}
+use Rattle.model.specs.Judging.{Mode, R, W, RW, Declaration, Pass, DeclaredPlan, no-pass, pass-of, permits, Accepts}
 use Rattle.model.specs.Expanding.{given, declared, expand, expansion}
 use Rattle.model.specs.Demand.{Made}
 use Rattle.model.specs.Inner.Holders.{array-of}
@@ -22,7 +22,7 @@ use Rattle.model.proofs.Runs.{config, event}
 use Rattle.model.proofs.Numbering.{covers-array}
 use Rattle.model.proofs.Stamps.{as-verb}
 use Rattle.model.proofs.Unmet.{none-unmet}
-use Rattle.model.proofs.Demand.Blocks.{_before_, then-assoc, expand-before}
+use Rattle.model.proofs.Demand.Blocks.{then-assoc, expand-then}
 use Rattle.model.proofs.Demand.Declarations.{barred}
 use Rattle.model.proofs.Demand.Numbers.{unnumbered, unnumbered-same, unnumbered-config, unnumbered-step, step-unnumbered}
 use Rattle.model.proofs.Demand.Stages.{declaration, Stage, in-body, declaring, marking, left-of, Progress, calling, Stages, begins, calls, enters, needs, marks, needs-first, marks-then, acts, branches, loops, branches0, loops0, judged, permitted-now}
@@ -33,7 +33,7 @@ module _ (layout : Layout) (c : ℕ) (σ : State) where
   is-current : (s : Side) → Current (at-cell layout c σ) s → current (σ .cell c) s ≡ true
   is-current s e = rw e (eq-eqb (σ .cell c .latest) (σ .cell c .latest) refl)
 
-  read-met : (p : Pass) (b : Block) (x : Action) → permits (p .declarations) (as-verb read x) ≡ true → CoherentIn layout c p b [] σ →
+  read-met : (p : Pass) (b : Block Action) (x : Action) → permits (p .declarations) (as-verb read x) ≡ true → CoherentIn layout c p b [] σ →
       met layout (as-verb read x) σ c ≡ true
   read-met p b x e k = go (covers layout (as-verb read x) c) refl
     where
@@ -41,7 +41,7 @@ module _ (layout : Layout) (c : ℕ) (σ : State) where
       go true w = rw w (is-current (x .side) (k .readable refl (x .side) (rw (covers-array layout (as-verb read x) c w) e) .0))
       go false w = rw w
 
-  act-met : (p : Pass) (b : Block) (x : Action) → permits (p .declarations) x ≡ true → CoherentIn layout c p b [] σ → met layout x σ c ≡ true
+  act-met : (p : Pass) (b : Block Action) (x : Action) → permits (p .declarations) x ≡ true → CoherentIn layout c p b [] σ → met layout x σ c ≡ true
   act-met p b x e k = go (x .verb) e
     where
       go : (v : Verb) → permits (p .declarations) (as-verb v x) ≡ true → met layout (as-verb v x) σ c ≡ true
@@ -51,7 +51,7 @@ module _ (layout : Layout) (c : ℕ) (σ : State) where
       go need e = absurd (false≢true (sym (barred (x .side) (x .name) (p .declarations)) ∙ e))
       go mark e = or-true (not (covers layout (as-verb mark x) c))
 
-  need-met : (p : Pass) (b : Block) (m : Mode) (s : Side) (a : ℕ) (ds : List Declaration) → CoherentIn layout c p b (declaration m s a ∷ ds) σ →
+  need-met : (p : Pass) (b : Block Action) (m : Mode) (s : Side) (a : ℕ) (ds : List Declaration) → CoherentIn layout c p b (declaration m s a ∷ ds) σ →
       met layout (whole-of need s a) σ c ≡ true
   need-met p b m s a ds k = go (σ .flags a .flag s) refl (own-or-other layout c a)
     where
@@ -82,7 +82,7 @@ module _ (plan : DeclaredPlan) (cs : List Bool) where
     pub state : State
     pub made : List Made
     pub called : List Pass
-    pub stages : Stages plan cs (in-body pass Block.done Body0.done) choices (record { state = state; history = history; made = made; called = called })
+    pub stages : Stages plan cs (in-body pass Block.done Block.done) choices (record { state = state; history = history; made = made; called = called })
 
   -- a step that leads to a stage, or ends unstuck
   abbrev pub Continues : List Bool → List Event → Step → Type 0
@@ -91,14 +91,14 @@ module _ (plan : DeclaredPlan) (cs : List Bool) where
   Continues ch l (ends (stopped r c)) = ⊥
   Continues ch l (ends (out-of-choices r)) = Unit {0}
 
-  abbrev ContinuesFrom : Block → List Bool → Progress → Type 0
+  abbrev ContinuesFrom : Block Action → List Bool → Progress → Type 0
   ContinuesFrom b ch n = Continues ch (n .history) (unnumbered-step (step (plan .layout) (config b ch (n .state) (n .history))))
 
-  at-stage : {k : Stage} {n : Progress} (b : Block) (ch : List Bool) → b ≡ left-of (plan .passes) k → Stages plan cs k ch n →
+  at-stage : {k : Stage} {n : Progress} (b : Block Action) (ch : List Bool) → b ≡ left-of (plan .passes) k → Stages plan cs k ch n →
       Follows (config (unnumbered b) ch (n .state) (n .history))
   at-stage {k} {n} b ch e h = record { stage = k; made = n .made; called = n .called; left = ap unnumbered e; stages = h }
 
-  act-next : (r : ℕ) (x : Action) (b : Block) (ch : List Bool) (n : Progress) →
+  act-next : (r : ℕ) (x : Action) (b : Block Action) (ch : List Bool) (n : Progress) →
       ((c : ℕ) → c < cell-count (plan .layout) → met (plan .layout) x (n .state) c ≡ true) →
       Follows (config (unnumbered b) ch (effect (plan .layout) x (n .state)) (event x (n .state) ∷ n .history)) → ContinuesFrom (act r x b) ch n
   act-next r x b ch n f k = go (lowest-unmet (plan .layout) x (n .state)) (none-unmet (plan .layout) x (n .state) f)
@@ -115,12 +115,12 @@ module _ (plan : DeclaredPlan) (cs : List Bool) where
     abbrev passes : List Pass
     passes = plan .passes
 
-    declare-next : (p : Pass) (ds : List Declaration) (t : Body0) (ch : List Bool) (n : Progress) → Stages plan cs (declaring p ds t) ch n →
+    declare-next : (p : Pass) (ds : List Declaration) (t : Block ℕ) (ch : List Bool) (n : Progress) → Stages plan cs (declaring p ds t) ch n →
         (Stages plan cs (in-body p (p .body) t) ch n → ContinuesFrom (p .body then expand passes t) ch n) → ContinuesFrom (left-of passes (declaring p ds t)) ch n
     declare-next p [] t ch n h more = more (enters h)
     declare-next p (d ∷ ds) t ch n h more = go (d .mode) h
       where
-        rest : Block
+        rest : Block Action
         rest = declared ds (p .body then expand passes t)
 
         s : Side
@@ -138,7 +138,7 @@ module _ (plan : DeclaredPlan) (cs : List Bool) where
         go W h = act-next 0 (whole-of mark s a) rest ch n (λ c i. or-true (not (covers layout (whole-of mark s a) c))) (at-stage rest ch refl (marks h))
         go RW h = act-next 0 (whole-of need s a) (act 0 (whole-of mark s a) rest) ch n (needed RW h) (at-stage (act 0 (whole-of mark s a) rest) ch refl (needs-first h))
 
-    body-next : (b : Block) (t : Body0) (p : Pass) (ch : List Bool) (n : Progress) →
+    body-next : (b : Block Action) (t : Block ℕ) (p : Pass) (ch : List Bool) (n : Progress) →
         (Stages plan cs (in-body p Block.done t) ch n → ContinuesFrom (expand passes t) ch n) →
         Stages plan cs (in-body p b t) ch n → ContinuesFrom (b then expand passes t) ch n
     body-next Block.done t p ch n more h = more h
@@ -155,22 +155,22 @@ module _ (plan : DeclaredPlan) (cs : List Bool) where
         turn true = sym (then-assoc x (loop r x b) (expand passes t))
         turn false = refl
 
-    body0-next : (t : Body0) (p : Pass) (ch : List Bool) (n : Progress) → Stages plan cs (in-body p Block.done t) ch n → ContinuesFrom (expand passes t) ch n
-    body0-next Body0.done p ch n h = record { pass = p; state = n .state; made = n .made; called = n .called; stages = h }
-    body0-next (Body0.call b t) p ch n h =
+    body0-next : (t : Block ℕ) (p : Pass) (ch : List Bool) (n : Progress) → Stages plan cs (in-body p Block.done t) ch n → ContinuesFrom (expand passes t) ch n
+    body0-next Block.done p ch n h = record { pass = p; state = n .state; made = n .made; called = n .called; stages = h }
+    body0-next (act r b t) p ch n h =
         let q = pass-of passes b in
         declare-next q (q .declarations) t ch (calling q n) (calls h) (body-next (q .body) t q ch (calling q n) (body0-next t q ch (calling q n)))
-    body0-next (Body0.branch x y t) p [] n h = tt
-    body0-next (Body0.branch x y t) p (c ∷ ch) n h = at-stage (cond c (expand passes x) (expand passes y) then expand passes t) ch (arm c) (branches0 h)
+    body0-next (branch r x y t) p [] n h = tt
+    body0-next (branch r x y t) p (c ∷ ch) n h = at-stage (cond c (expand passes x) (expand passes y) then expand passes t) ch (arm c) (branches0 h)
       where
-        arm : (c : Bool) → cond c (expand passes x) (expand passes y) then expand passes t ≡ expand passes (cond c x y before t)
-        arm true = sym (expand-before passes x t)
-        arm false = sym (expand-before passes y t)
-    body0-next (Body0.loop x t) p [] n h = tt
-    body0-next (Body0.loop x t) p (c ∷ ch) n h = at-stage (cond c (expand passes x then expand passes (Body0.loop x t)) (expand passes t)) ch (turn c) (loops0 h)
+        arm : (c : Bool) → cond c (expand passes x) (expand passes y) then expand passes t ≡ expand passes (cond c x y then t)
+        arm true = sym (expand-then passes x t)
+        arm false = sym (expand-then passes y t)
+    body0-next (loop r x t) p [] n h = tt
+    body0-next (loop r x t) p (c ∷ ch) n h = at-stage (cond c (expand passes x then expand passes (loop r x t)) (expand passes t)) ch (turn c) (loops0 h)
       where
-        turn : (c : Bool) → cond c (expand passes x then expand passes (Body0.loop x t)) (expand passes t) ≡ expand passes (cond c (x before Body0.loop x t) t)
-        turn true = sym (expand-before passes x (Body0.loop x t))
+        turn : (c : Bool) → cond c (expand passes x then expand passes (loop r x t)) (expand passes t) ≡ expand passes (cond c (x then loop r x t) t)
+        turn true = sym (expand-then passes x (loop r x t))
         turn false = refl
 
     stage-next : (k : Stage) (ch : List Bool) (n : Progress) → Stages plan cs k ch n → ContinuesFrom (left-of passes k) ch n

@@ -1,8 +1,8 @@
 -- The flags of one array through the stages of a run, and the moves of the array in each of its intervals.
 use Prim.Native.Nat.{ℕ, suc}
 use mathlib.Core.Path.{_≡_, refl, ap, sym, _∙_, subst}
-use mathlib.Core.List.{List, [], _∷_, _++_}
-use mathlib.Core.Bool.{Bool, true, false, cond, not, _&&_, _||_, or-true, or-false, true≢false, false≢true}
+use mathlib.Core.List.{List, [], _∷_, _++_, reverseAux as onto}
+use mathlib.Core.Bool.{Bool, true, false, cond, not, _&&_, _||_, and-true, or-true, or-false, true≢false, false≢true}
 use lib.Dec.{eqb}
 use borrow.Author.Tests.{eqb-true}
 use Rattle.model.specs.Lists.{any}
@@ -10,10 +10,11 @@ use Rattle.model.specs.Sides.{Side, host, other, same-side, Layout}
 use Rattle.model.specs.Records.{Verb, read, write, copy, need, mark, Action, whole-of}
 use Rattle.model.specs.Effects.{Flags, State, Deed, comes-to, effect}
 use Rattle.model.specs.Blocks.{Block}
-use Rattle.model.specs.Judging.{Mode, R, W, RW, R-or-RW, W-or-RW, Declaration, Pass, Body0, DeclaredPlan, permits, Accepts}
-use Rattle.model.specs.Demand.{Made, declares-read, declares-write, moves-of, Opens, at-start, Closes, at-end}
+use Rattle.model.specs.Judging.{Mode, R, W, RW, R-or-RW, W-or-RW, Declaration, Pass, DeclaredPlan, permits, Accepts}
+use Rattle.model.specs.Demand.{Made, declares-read, declares-write, moves-of, MovesOnce}
+use Rattle.model.specs.Demand as Demand
 use Rattle.model.proofs.Needs.{flag-set, flag-clear}
-use Rattle.model.proofs.Booleans.{or-none, eqb-swap, is-not}
+use Rattle.model.proofs.Booleans.{eqb-swap, is-not}
 use Rattle.model.proofs.Stamps.{as-verb}
 use Rattle.model.proofs.Demand.Declarations.{barred}
 use Rattle.model.proofs.Demand.Stages.{Stage, in-body, declaring, marking, Progress, Stages, begins, calls, enters, needs, marks, needs-first, marks-then, acts, branches, loops, branches0, loops0, judged, permitted-now}
@@ -37,6 +38,10 @@ abbrev flags : Interval → Side → Bool
 flags i t = same-side t (i .writer) || i .shared
 
 module _ (a : ℕ) where
+  -- an interval in order
+  abbrev interval-from : List Made → List Made
+  interval-from l = Demand.interval a l
+
   -- whether a declaration is one of the array
   abbrev own : Made → Bool
   own d = eqb (d .declaration .array) a
@@ -147,12 +152,33 @@ module _ (a : ℕ) where
     counted (branches0 h) = counted h
     counted (loops0 h) = counted h
 
-  opened : {l : List Made} {w : Side} → Opens a l w → interval-of l ≡ interval w false
-  opened at-start = refl
-  opened (Opens.at-write d l e) = go (own d) (d .declaration .mode) e
+  -- the interval after one more declaration
+  abbrev next : Interval → Made → Interval
+  next i d = cond (own d) (extended (d .declaration .mode) (d .declaration .side) i) i
+
+  -- the same of declarations in order, from an interval on
+  abbrev ExactFrom : Interval → List Made → Type 0
+  ExactFrom i [] = Unit {0}
+  ExactFrom i (d ∷ l) = ExactIn i d × ExactFrom (next i d) l
+
+  in-order : (l rest : List Made) → Exact l → ExactFrom (interval-of l) rest → ExactFrom (interval host false) (onto l rest)
+  in-order [] rest x y = y
+  in-order (d ∷ l) rest x y = in-order l (d ∷ rest) (x .1) (x .0, y)
+
+  -- what follows some of them
+  record From (l : List Made) : Type 0 where
+    reached : Interval
+    exact : ExactFrom reached l
+
+  following : (before l : List Made) (i : Interval) → ExactFrom i (before ++ l) → From l
+  following [] l i x = record { reached = i; exact = x }
+  following (d ∷ before) l i x = following before l (next i d) (x .1)
+
+  -- a declared write begins an interval on its side
+  begun : (d : Made) (i : Interval) → declares-write a d ≡ true → next i d ≡ interval (d .declaration .side) false
+  begun d i e = go (own d) (d .declaration .mode) e
     where
-      go : (o : Bool) (m : Mode) → (o && W-or-RW m) ≡ true →
-          cond o (extended m (d .declaration .side) (interval-of l)) (interval-of l) ≡ interval (d .declaration .side) false
+      go : (o : Bool) (m : Mode) → (o && W-or-RW m) ≡ true → cond o (extended m (d .declaration .side) i) i ≡ interval (d .declaration .side) false
       go true R q = absurd (false≢true q)
       go true W q = refl
       go true RW q = refl
@@ -166,55 +192,60 @@ module _ (a : ℕ) where
   extended-by-read true RW s w b e = absurd (true≢false e)
   extended-by-read false m s w b e = refl
 
-  -- one more declaration moves the array if it is the first to read on the opposite side
-  one-more : (d : Made) (w : Side) (b : Bool) (k : ℕ) → ExactIn (interval w b) d → k ≡ cond b 1 0 →
-      cond (own d && d .copied) (suc k) k ≡ cond (declares-read a (other w) d || b) 1 0
-  one-more d w b k f e = rw (is-not (d .declaration .side) w) (go (own d) f)
+  -- its array moves if it is the first to read on the opposite side
+  copies-first : (d : Made) (w : Side) (b : Bool) → ExactIn (interval w b) d → (own d && d .copied) ≡ (declares-read a (other w) d && not b)
+  copies-first d w b x = rw (is-not (d .declaration .side) w) (go (own d) x)
     where
-      moved : (r o b : Bool) → k ≡ cond b 1 0 → cond (r && not (o || b)) (suc k) k ≡ cond (r && not o || b) 1 0
-      moved false o b e = e
-      moved true true b e = e
-      moved true false true e = e
-      moved true false false e = ap suc e
+      first : (r o b : Bool) → (r && not (o || b)) ≡ ((r && not o) && not b)
+      first false o b = refl
+      first true true b = refl
+      first true false b = refl
 
       go : (o : Bool) → (o ≡ true → d .copied ≡ (R-or-RW (d .declaration .mode) && not (flags (interval w b) (d .declaration .side)))) →
-          cond (o && d .copied) (suc k) k ≡ cond (o && (R-or-RW (d .declaration .mode) && not (same-side (d .declaration .side) w)) || b) 1 0
-      go true g = rw (g refl) (moved (R-or-RW (d .declaration .mode)) (same-side (d .declaration .side) w) b e)
-      go false g = e
+          (o && d .copied) ≡ ((o && (R-or-RW (d .declaration .mode) && not (same-side (d .declaration .side) w))) && not b)
+      go true g = g refl ∙ first (R-or-RW (d .declaration .mode)) (same-side (d .declaration .side) w) b
+      go false g = refl
 
-  -- declarations of an interval after the one that begins it, none of them a declared write of the array
-  record Counts (w : Side) (during before : List Made) : Type 0 where
-    stands : interval-of (during ++ before) ≡ interval w (any (declares-read a (other w)) during)
-    moved : moves-of a during ≡ cond (any (declares-read a (other w)) during) 1 0
+  -- in an interval that a write on side w began, and in which the opposite side has read or has not
+  counts : (w : Side) (b : Bool) (l : List Made) → ExactFrom (interval w b) l →
+      moves-of a (interval-from l) ≡ cond (any (declares-read a (other w)) (interval-from l) && not b) 1 0
+  counts w b [] x = refl
+  counts w b (d ∷ l) x = go (declares-write a d) refl (counts w (declares-read a (other w) d || b) l)
+    where
+      reads : Bool
+      reads = declares-read a (other w) d
 
-  counts : (w : Side) (during before : List Made) → interval-of before ≡ interval w false → any (declares-write a) during ≡ false →
-      Exact (during ++ before) → Counts w during before
-  counts w [] before e n x = record { stands = e; moved = refl }
-  counts w (d ∷ l) before e n x =
-      let o = or-none (declares-write a d) (any (declares-write a) l) n in
-      let i = counts w l before e (o .1) (x .1) in
-      let b = any (declares-read a (other w)) l in
-      record {
-        stands = rw (i .stands) (extended-by-read (own d) (d .declaration .mode) (d .declaration .side) w b (o .0));
-        moved = one-more d w b (moves-of a l) (λ q. rw (i .stands) at (x .0 q)) (i .moved);
-      }
+      last : (r : Bool) → _≡_ {A = ℕ} (cond (r && not b) 1 0) (cond ((r || false) && not b) 1 0)
+      last true = refl
+      last false = refl
 
-  exact-from : (after l : List Made) → Exact (after ++ l) → Exact l
-  exact-from [] l x = x
-  exact-from (d ∷ after) l x = exact-from after l (x .1)
+      more : (r b m : Bool) (k : ℕ) → k ≡ cond (m && not (r || b)) 1 0 → cond (r && not b) (suc k) k ≡ cond ((r || m) && not b) 1 0
+      more true true true k e = e
+      more true true false k e = e
+      more true false true k e = ap suc e
+      more true false false k e = ap suc e
+      more false b m k e = e
 
-  intervals : (made : List Made) → Exact made → (w : Side) (before during after : List Made) → made ≡ after ++ (during ++ before) → Opens a before w →
-      Closes a during after →
-      moves-of a during ≡ cond (any (declares-read a (other w)) during) 1 0
-  intervals made x w before during after e o (at-end l n) = counts w l before (opened o) n (subst Exact e x) .moved
-  intervals made x w before during after e o (Closes.at-next d l after′ n y) =
-      let z = exact-from after ((d ∷ l) ++ before) (subst Exact e x) in
-      let i = counts w l before (opened o) n (z .1) in
-      one-more d w (any (declares-read a (other w)) l) (moves-of a l) (λ q. rw (i .stands) at (z .0 q)) (i .moved)
+      go : (z : Bool) → declares-write a d ≡ z →
+          (ExactFrom (interval w (reads || b)) l → moves-of a (interval-from l) ≡ cond (any (declares-read a (other w)) (interval-from l) && not (reads || b)) 1 0) →
+          moves-of a (cond z (d ∷ []) (d ∷ interval-from l)) ≡ cond (any (declares-read a (other w)) (cond z (d ∷ []) (d ∷ interval-from l)) && not b) 1 0
+      go true e ih = rw (copies-first d w b (x .0)) (last reads)
+      go false e ih =
+          let i = extended-by-read (own d) (d .declaration .mode) (d .declaration .side) w b e in
+          rw (copies-first d w b (x .0)) (more reads b (any (declares-read a (other w)) (interval-from l)) (moves-of a (interval-from l)) (ih (subst (λ j. ExactFrom j l) i (x .1))))
 
-  -- in each interval the array moves once if R or RW of it is declared on the opposite side, else never
-  pub moves-once : (plan : DeclaredPlan) (cs : List Bool) → Accepts plan → {p : Pass} {b : Block} {t : Body0} {ch : List Bool} {n : Progress} →
-      Stages plan cs (in-body p b t) ch n →
-      (w : Side) (before during after : List Made) → n .made ≡ after ++ (during ++ before) → Opens a before w → Closes a during after →
-      moves-of a during ≡ cond (any (declares-read a (other w)) during) 1 0
-  moves-once plan cs ok {n = n} h = intervals (n .made) (counted plan cs ok h .exact)
+  once : (w : Side) (l : List Made) → ExactFrom (interval w false) l → MovesOnce a w (interval-from l)
+  once w l x = counts w false l x ∙ ap (λ z. cond z 1 0) (and-true (any (declares-read a (other w)) (interval-from l)))
+
+  module _ (plan : DeclaredPlan) (cs : List Bool) (ok : Accepts plan) {p : Pass} {ch : List Bool} {n : Progress} (h : Stages plan cs (in-body p Block.done Block.done) ch n) where
+    ordered : ExactFrom (interval host false) (onto (n .made) [])
+    ordered = in-order (n .made) [] (counted plan cs ok h .exact) tt
+
+    pub once-from-start : MovesOnce a host (interval-from (onto (n .made) []))
+    once-from-start = once host (onto (n .made) []) ordered
+
+    pub once-from-write : (before after : List Made) (d : Made) → onto (n .made) [] ≡ before ++ (d ∷ after) → declares-write a d ≡ true →
+        MovesOnce a (d .declaration .side) (interval-from after)
+    once-from-write before after d e w =
+        let f = following before (d ∷ after) (interval host false) (subst (ExactFrom (interval host false)) e ordered) in
+        once (d .declaration .side) after (subst (λ j. ExactFrom j after) (begun d (f .reached) w) (f .exact .1))

@@ -6,24 +6,25 @@ use mathlib.Core.Bool.{Bool, true, false}
 use mathlib.Core.Option.{Option, none, some}
 use Rattle.model.specs.Sides.{Layout}
 use Rattle.model.specs.Effects.{State}
+use Rattle.model.specs.Records.{Action}
 use Rattle.model.specs.Blocks.{Block, done, act, branch, loop, _then_, numbered}
 use Rattle.model.specs.Runs.{Event, Config, Ending, finished, stopped, out-of-choices, Step, next, ends, carry, lowest-unmet, stop-or, step}
 use Rattle.model.proofs.Runs.{config}
 
 -- a block with every record number 0
-abbrev pub unnumbered : Block → Block
+abbrev pub unnumbered : Block Action → Block Action
 unnumbered done = done
 unnumbered (act r x b) = act 0 x (unnumbered b)
 unnumbered (branch r x y b) = branch 0 (unnumbered x) (unnumbered y) (unnumbered b)
 unnumbered (loop r x b) = loop 0 (unnumbered x) (unnumbered b)
 
-unnumbered-then : (a b : Block) → unnumbered (a then b) ≡ unnumbered a then unnumbered b
+unnumbered-then : (a b : Block Action) → unnumbered (a then b) ≡ unnumbered a then unnumbered b
 unnumbered-then done b = refl
 unnumbered-then (act r x a) b = ap (act 0 x) (unnumbered-then a b)
 unnumbered-then (branch r x y a) b = ap (branch 0 (unnumbered x) (unnumbered y)) (unnumbered-then a b)
 unnumbered-then (loop r x a) b = ap (loop 0 (unnumbered x)) (unnumbered-then a b)
 
-pub unnumbered-same : (r : ℕ) (b : Block) → unnumbered (numbered r b) ≡ unnumbered b
+pub unnumbered-same : (r : ℕ) (b : Block Action) → unnumbered (numbered r b) ≡ unnumbered b
 unnumbered-same r done = refl
 unnumbered-same r (act q x b) = ap (act 0 x) (unnumbered-same (suc r) b)
 unnumbered-same r (branch q x y b) = rw (unnumbered-same _ x, unnumbered-same _ y, unnumbered-same _ b)
@@ -42,10 +43,10 @@ unnumbered-step (next k) = next (unnumbered-config k)
 unnumbered-step (ends e) = ends (unnumbered-ending e)
 
 module _ (layout : Layout) (σ : State) (l : List Event) where
-  abbrev to : List Bool → Block → Step
+  abbrev to : List Bool → Block Action → Step
   to cs b = next (config b cs σ l)
 
-  pub step-unnumbered : (b : Block) (cs : List Bool) → step layout (config (unnumbered b) cs σ l) ≡ unnumbered-step (step layout (config b cs σ l))
+  pub step-unnumbered : (b : Block Action) (cs : List Bool) → step layout (config (unnumbered b) cs σ l) ≡ unnumbered-step (step layout (config b cs σ l))
   step-unnumbered done cs = refl
   step-unnumbered (act r x b) cs = go (lowest-unmet layout x σ)
     where

@@ -4,21 +4,21 @@ use Prim.Native.Nat.{ℕ}
 use mathlib.Core.Path.{_≡_, refl, ap, sym, _∙_}
 use mathlib.Core.List.{List, [], _∷_, map, reverseAux as onto}
 use mathlib.Core.Bool.{Bool, true, false, cond, not, false≢true}
-use Rattle.model.specs.Lists.{All}
+use Rattle.model.specs.Lists.{keep, All}
 use Rattle.model.specs.Sides.{Side, Layout}
-use Rattle.model.specs.Records.{Verb, read, write, copy, need, mark, Action, whole-of}
+use Rattle.model.specs.Records.{Verb, read, write, copy, need, mark, whole, Action, whole-of}
 use Rattle.model.specs.Effects.{Flags, State, start, Deed, deed, effect}
 use Rattle.model.specs.Blocks.{Block, act, branch, loop, _then_}
 use Rattle.model.specs.Runs.{Event}
-use Rattle.model.specs.Judging.{Mode, R, W, RW, Declaration, Pass, Body0, DeclaredPlan, no-pass, pass-of, declared-once, permits, every, Way, Accepts}
+use Rattle.model.specs.Judging.{Mode, R, W, RW, Declaration, Pass, DeclaredPlan, no-pass, pass-of, declared-once, permits, every, Way, at-end, passing, Itself, itself, Accepts}
 use Rattle.model.specs.Expanding.{declared, expand}
-use Rattle.model.specs.Demand.{Walk, declarations-of, Made, copied-if, executed-of, asked}
+use Rattle.model.specs.Demand.{Called, called, Calls, Made, copied-if, executed}
 use Rattle.model.proofs.Booleans.{and-out}
 use Rattle.model.proofs.Needs.{flag-set, flag-clear}
 use Rattle.model.proofs.Runs.{event}
 use Rattle.model.proofs.Stamps.{as-verb}
-use Rattle.model.proofs.Demand.Blocks.{_before_, every-branch, every-loop}
-use Rattle.model.proofs.Demand.Walks.{HasWay, way-branch, way-loop, walk-branch, walk-turn}
+use Rattle.model.proofs.Demand.Blocks.{every-branch, every-loop}
+use Rattle.model.proofs.Demand.Walks.{way-branch, way-loop}
 use Rattle.model.proofs.Demand.Declarations.{barred, Rule, each-rule, rules-of, once-rest}
 
 abbrev pub declaration : Mode → Side → ℕ → Declaration
@@ -27,9 +27,9 @@ declaration m s a = record { mode = m; side = s; array = a }
 -- where a run stands: in the body of a pass, with a block of it left; with declarations of a pass still to make;
 -- or between the need and the mark of an RW, with whether the need copied. Each with what is left of body 0.
 pub data Stage : Type 0 where
-  in-body : Pass → Block → Body0 → Stage
-  declaring : Pass → List Declaration → Body0 → Stage
-  marking : Pass → Side → ℕ → Bool → List Declaration → Body0 → Stage
+  in-body : Pass → Block Action → Block ℕ → Stage
+  declaring : Pass → List Declaration → Block ℕ → Stage
+  marking : Pass → Side → ℕ → Bool → List Declaration → Block ℕ → Stage
 
 -- the pass at hand, its declarations still to make, what is left of its body, and what is left of body 0
 abbrev pub pass-at : Stage → Pass
@@ -42,18 +42,18 @@ ahead (in-body p b t) = []
 ahead (declaring p ds t) = ds
 ahead (marking p s a m ds t) = declaration RW s a ∷ ds
 
-abbrev pub body-left : Stage → Block
+abbrev pub body-left : Stage → Block Action
 body-left (in-body p b t) = b
 body-left (declaring p ds t) = p .body
 body-left (marking p s a m ds t) = p .body
 
-abbrev body0-left : Stage → Body0
+abbrev body0-left : Stage → Block ℕ
 body0-left (in-body p b t) = t
 body0-left (declaring p ds t) = t
 body0-left (marking p s a m ds t) = t
 
 -- the block that is left
-abbrev pub left-of : List Pass → Stage → Block
+abbrev pub left-of : List Pass → Stage → Block Action
 left-of passes (in-body p b t) = b then expand passes t
 left-of passes (declaring p ds t) = declared ds (p .body then expand passes t)
 left-of passes (marking p s a m ds t) = act 0 (whole-of mark s a) (declared ds (p .body then expand passes t))
@@ -64,6 +64,23 @@ pub record Progress : Type 0 where
   pub history : List Event
   pub made : List Made
   pub called : List Pass
+
+-- what each of a list gives, the last one first
+abbrev pub all-onto : {A B : Type 0} → (A → List B) → List A → List B
+all-onto f [] = []
+all-onto f (x ∷ l) = onto (f x) (all-onto f l)
+
+-- the declarations of these passes
+abbrev declarations-of : List Pass → List Declaration
+declarations-of ps = all-onto (λ (p : Pass). p .declarations) ps
+
+-- the needs and marks of declarations made
+abbrev executed-of : List Made → List Event
+executed-of l = all-onto executed l
+
+-- the needs and marks of a history
+abbrev pub asked : List Event → List Event
+asked l = keep (λ (e : Event). whole (e .action .verb)) l
 
 abbrev making : Mode → Side → ℕ → Bool → Progress → Progress
 making m s a copied n = record { state = n .state; history = n .history; made = record { declaration = declaration m s a; copied = copied } ∷ n .made; called = n .called }
@@ -81,53 +98,51 @@ module _ (plan : DeclaredPlan) (cs : List Bool) where
   -- the stages that the run on the choices cs goes through, each with the choices left
   pub data Stages : Stage → List Bool → Progress → Type 0 where
     begins : Stages (in-body no-pass Block.done (plan .body0)) cs first
-    calls : {p : Pass} {b : ℕ} {t : Body0} {ch : List Bool} {n : Progress} → Stages (in-body p Block.done (Body0.call b t)) ch n →
+    calls : {p : Pass} {r b : ℕ} {t : Block ℕ} {ch : List Bool} {n : Progress} → Stages (in-body p Block.done (act r b t)) ch n →
         Stages (declaring (pass-of (plan .passes) b) (pass-of (plan .passes) b .declarations) t) ch (calling (pass-of (plan .passes) b) n)
-    enters : {p : Pass} {t : Body0} {ch : List Bool} {n : Progress} → Stages (declaring p [] t) ch n → Stages (in-body p (p .body) t) ch n
+    enters : {p : Pass} {t : Block ℕ} {ch : List Bool} {n : Progress} → Stages (declaring p [] t) ch n → Stages (in-body p (p .body) t) ch n
     -- R
-    needs : {p : Pass} {s : Side} {a : ℕ} {ds : List Declaration} {t : Body0} {ch : List Bool} {n : Progress} →
+    needs : {p : Pass} {s : Side} {a : ℕ} {ds : List Declaration} {t : Block ℕ} {ch : List Bool} {n : Progress} →
         Stages (declaring p (declaration R s a ∷ ds) t) ch n →
         Stages (declaring p ds t) ch (making R s a (not (n .state .flags a .flag s)) (executing (whole-of need s a) n))
     -- W
-    marks : {p : Pass} {s : Side} {a : ℕ} {ds : List Declaration} {t : Body0} {ch : List Bool} {n : Progress} →
+    marks : {p : Pass} {s : Side} {a : ℕ} {ds : List Declaration} {t : Block ℕ} {ch : List Bool} {n : Progress} →
         Stages (declaring p (declaration W s a ∷ ds) t) ch n →
         Stages (declaring p ds t) ch (making W s a false (executing (whole-of mark s a) n))
     -- RW
-    needs-first : {p : Pass} {s : Side} {a : ℕ} {ds : List Declaration} {t : Body0} {ch : List Bool} {n : Progress} →
+    needs-first : {p : Pass} {s : Side} {a : ℕ} {ds : List Declaration} {t : Block ℕ} {ch : List Bool} {n : Progress} →
         Stages (declaring p (declaration RW s a ∷ ds) t) ch n →
         Stages (marking p s a (not (n .state .flags a .flag s)) ds t) ch (executing (whole-of need s a) n)
-    marks-then : {p : Pass} {s : Side} {a : ℕ} {m : Bool} {ds : List Declaration} {t : Body0} {ch : List Bool} {n : Progress} →
+    marks-then : {p : Pass} {s : Side} {a : ℕ} {m : Bool} {ds : List Declaration} {t : Block ℕ} {ch : List Bool} {n : Progress} →
         Stages (marking p s a m ds t) ch n →
         Stages (declaring p ds t) ch (making RW s a m (executing (whole-of mark s a) n))
     -- the body of a pass
-    acts : {p : Pass} {r : ℕ} {x : Action} {b : Block} {t : Body0} {ch : List Bool} {n : Progress} → Stages (in-body p (act r x b) t) ch n →
+    acts : {p : Pass} {r : ℕ} {x : Action} {b : Block Action} {t : Block ℕ} {ch : List Bool} {n : Progress} → Stages (in-body p (act r x b) t) ch n →
         Stages (in-body p b t) ch (executing x n)
-    branches : {p : Pass} {r : ℕ} {x y b : Block} {t : Body0} {c : Bool} {ch : List Bool} {n : Progress} → Stages (in-body p (branch r x y b) t) (c ∷ ch) n →
+    branches : {p : Pass} {r : ℕ} {x y b : Block Action} {t : Block ℕ} {c : Bool} {ch : List Bool} {n : Progress} → Stages (in-body p (branch r x y b) t) (c ∷ ch) n →
         Stages (in-body p (cond c x y then b) t) ch n
-    loops : {p : Pass} {r : ℕ} {x b : Block} {t : Body0} {c : Bool} {ch : List Bool} {n : Progress} → Stages (in-body p (loop r x b) t) (c ∷ ch) n →
+    loops : {p : Pass} {r : ℕ} {x b : Block Action} {t : Block ℕ} {c : Bool} {ch : List Bool} {n : Progress} → Stages (in-body p (loop r x b) t) (c ∷ ch) n →
         Stages (in-body p (cond c (x then loop r x b) b) t) ch n
     -- body 0
-    branches0 : {p : Pass} {x y t : Body0} {c : Bool} {ch : List Bool} {n : Progress} → Stages (in-body p Block.done (Body0.branch x y t)) (c ∷ ch) n →
-        Stages (in-body p Block.done (cond c x y before t)) ch n
-    loops0 : {p : Pass} {x t : Body0} {c : Bool} {ch : List Bool} {n : Progress} → Stages (in-body p Block.done (Body0.loop x t)) (c ∷ ch) n →
-        Stages (in-body p Block.done (cond c (x before Body0.loop x t) t)) ch n
+    branches0 : {p : Pass} {r : ℕ} {x y t : Block ℕ} {c : Bool} {ch : List Bool} {n : Progress} → Stages (in-body p Block.done (branch r x y t)) (c ∷ ch) n →
+        Stages (in-body p Block.done (cond c x y then t)) ch n
+    loops0 : {p : Pass} {r : ℕ} {x t : Block ℕ} {c : Bool} {ch : List Bool} {n : Progress} → Stages (in-body p Block.done (loop r x t)) (c ∷ ch) n →
+        Stages (in-body p Block.done (cond c (x then loop r x t) t)) ch n
 
-  -- whatever walks on from a stage has walked from the start
-  record WalksOn (b : Block) (t : Body0) (ch : List Bool) (ps : List Pass) : Type 0 where
-    from-start : (ds es : List Bool) (qs : List Pass) → HasWay b ch ds → Walk (plan .passes) t ds ps es qs → Walk (plan .passes) (plan .body0) cs [] es qs
+  -- whatever goes on from a stage, through what is left of the pass and of body 0, has gone from the start
+  record WalksOn (b : Block Action) (t : Block ℕ) (ch : List Bool) (ps : List Pass) : Type 0 where
+    from-start : (ds es : List Bool) (w : List Action) (qs : List Pass) → Way Itself b ch ds w → Way (Called (plan .passes)) t ds es qs →
+        Way (Called (plan .passes)) (plan .body0) cs es (onto ps qs)
 
-  through-done : {t : Body0} {ch ds es : List Bool} {w : List Action} {ps qs : List Pass} →
-      Way Block.done ch ds w → Walk (plan .passes) t ds ps es qs → Walk (plan .passes) t ch ps es qs
-  through-done Way.done k = k
-
-  abbrev empty-way : {ch : List Bool} → HasWay Block.done ch ch
-  empty-way = record { records = []; way = Way.done }
+  through-done : {t : Block ℕ} {ch ds es : List Bool} {w : List Action} {qs : List Pass} →
+      Way Itself Block.done ch ds w → Way (Called (plan .passes)) t ds es qs → Way (Called (plan .passes)) t ch es qs
+  through-done at-end k = k
 
   walks : {k : Stage} {ch : List Bool} {n : Progress} → Stages k ch n → WalksOn (body-left k) (body0-left k) ch (n .called)
-  walks begins = record { from-start = λ ds es qs u w. through-done (u .way) w }
-  walks (calls {ch = ch} h) =
+  walks begins = record { from-start = λ ds es w qs u v. through-done u v }
+  walks (calls {r = r} {ch = ch} h) =
       let i = walks h in
-      record { from-start = λ ds es qs u w. i .from-start ch es qs empty-way (Walk.call (u .way) w) }
+      record { from-start = λ ds es w qs u v. i .from-start ch es [] _ at-end (passing {r = r} (called u) v) }
   walks (enters h) = walks h
   walks (needs h) = walks h
   walks (marks h) = walks h
@@ -135,24 +150,24 @@ module _ (plan : DeclaredPlan) (cs : List Bool) where
   walks (marks-then h) = walks h
   walks (acts {x = x} h) =
       let i = walks h in
-      record { from-start = λ ds es qs u w. i .from-start ds es qs (record { records = x ∷ u .records; way = Way.act (u .way) }) w }
+      record { from-start = λ ds es w qs u v. i .from-start ds es (x ∷ w) qs (passing itself u) v }
   walks (branches {r = r} {x} {y} {b} {c = c} h) =
       let i = walks h in
-      record { from-start = λ ds es qs u w. i .from-start ds es qs (way-branch r c x y b u) w }
+      record { from-start = λ ds es w qs u v. i .from-start ds es w qs (way-branch Itself r c x y b u) v }
   walks (loops {r = r} {x} {b} {c = c} h) =
       let i = walks h in
-      record { from-start = λ ds es qs u w. i .from-start ds es qs (way-loop r c x b u) w }
-  walks (branches0 {x = x} {y} {t} {c} {ch} h) =
+      record { from-start = λ ds es w qs u v. i .from-start ds es w qs (way-loop Itself r c x b u) v }
+  walks (branches0 {r = r} {x} {y} {t} {c} {ch} h) =
       let i = walks h in
-      record { from-start = λ ds es qs u w. i .from-start (c ∷ ch) es qs empty-way (walk-branch (plan .passes) c x y t (through-done (u .way) w)) }
-  walks (loops0 {x = x} {t} {c} {ch} h) =
+      record { from-start = λ ds es w qs u v. i .from-start (c ∷ ch) es [] qs at-end (way-branch (Called (plan .passes)) r c x y t (through-done u v)) }
+  walks (loops0 {r = r} {x} {t} {c} {ch} h) =
       let i = walks h in
-      record { from-start = λ ds es qs u w. i .from-start (c ∷ ch) es qs empty-way (walk-turn (plan .passes) c x t (through-done (u .way) w)) }
+      record { from-start = λ ds es w qs u v. i .from-start (c ∷ ch) es [] qs at-end (way-loop (Called (plan .passes)) r c x t (through-done u v)) }
 
   -- at the end body 0 has been walked through
-  pub walked : {p : Pass} {ch : List Bool} {n : Progress} → Stages (in-body p Block.done Body0.done) ch n →
-      Walk (plan .passes) (plan .body0) cs [] ch (n .called)
-  walked {ch = ch} {n} h = walks h .from-start ch ch (n .called) empty-way Walk.done
+  pub walked : {p : Pass} {ch : List Bool} {n : Progress} → Stages (in-body p Block.done Block.done) ch n →
+      Calls plan cs ch (onto (n .called) [])
+  walked {ch = ch} {n} h = walks h .from-start ch ch [] [] at-end at-end
 
   -- the declarations made, and then those ahead, are those of the passes called
   pub declares-all : {k : Stage} {ch : List Bool} {n : Progress} → Stages k ch n →
@@ -171,16 +186,16 @@ module _ (plan : DeclaredPlan) (cs : List Bool) where
   declares-all (loops0 h) = declares-all h
 
 -- what the judge accepts holds of what is ahead in pass p: of the declarations ds and the block b
-pub record Judged (layout : Layout) (p : Pass) (ds : List Declaration) (b : Block) : Type 0 where
+pub record Judged (layout : Layout) (p : Pass) (ds : List Declaration) (b : Block Action) : Type 0 where
   pub rules : All (Rule layout p) ds
   pub once : declared-once ds ≡ true
   pub permitted : every (permits (p .declarations)) b ≡ true
 
-judged-rest : {layout : Layout} {p : Pass} {d : Declaration} {ds : List Declaration} {b : Block} → Judged layout p (d ∷ ds) b → Judged layout p ds b
+judged-rest : {layout : Layout} {p : Pass} {d : Declaration} {ds : List Declaration} {b : Block Action} → Judged layout p (d ∷ ds) b → Judged layout p ds b
 judged-rest {d = d} {ds} k = record { rules = k .rules .1; once = once-rest d ds (k .once); permitted = k .permitted }
 
 -- the record at hand
-pub permitted-now : {layout : Layout} {p : Pass} {ds : List Declaration} {r : ℕ} {b : Block} (x : Action) → Judged layout p ds (act r x b) →
+pub permitted-now : {layout : Layout} {p : Pass} {ds : List Declaration} {r : ℕ} {b : Block Action} (x : Action) → Judged layout p ds (act r x b) →
     permits (p .declarations) x ≡ true
 permitted-now {p = p} {b = b} x k = and-out (permits (p .declarations) x) (every (permits (p .declarations)) b) (k .permitted) .0
 
@@ -206,7 +221,7 @@ module _ (plan : DeclaredPlan) (cs : List Bool) (ok : Accepts plan) where
   judged (branches0 h) = judged h
   judged (loops0 h) = judged h
 
-  -- the needs and marks executed are those of the declarations made; the need of an RW comes before the RW counts as made
+  -- the needs and marks executed are those of the declarations made; the need of an RW comes then the RW counts as made
   abbrev Asked : Stage → Progress → Type 0
   Asked (in-body p b t) n = asked (n .history) ≡ executed-of (n .made)
   Asked (declaring p ds t) n = asked (n .history) ≡ executed-of (n .made)

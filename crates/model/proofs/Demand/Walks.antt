@@ -1,110 +1,70 @@
--- Ways through one block and then another, walks through one body 0 and then another; the choices determine both.
+-- Ways through one block and then another; the choices determine a way.
 use Prim.Native.Nat.{ℕ}
-use mathlib.Core.Path.{_≡_, refl, sym, subst, subst₂}
-use mathlib.Core.List.{List, [], _∷_, _++_}
+use mathlib.Core.Path.{_≡_, refl, ap, ap₂, sym, _∙_, subst}
+use mathlib.Core.List.{List, [], _∷_, _++_, append-assoc}
 use mathlib.Core.Bool.{Bool, true, false, cond}
 use Rattle.model.specs.Records.{Action}
 use Rattle.model.specs.Blocks.{Block, act, branch, loop, _then_}
-use Rattle.model.specs.Judging.{Pass, Body0, pass-of, Way}
-use Rattle.model.specs.Demand.{Walk}
-use Rattle.model.proofs.Demand.Blocks.{_before_}
+use Rattle.model.specs.Judging.{Pass, Way, at-end, passing, choosing, leaving, turning, Itself, itself}
+use Rattle.model.specs.Demand.{Called, called}
 
--- the two parts of a way through one block and then another
-record Parted (a b : Block) (cs es : List Bool) : Type 0 where
-  between : List Bool
-  front : List Action
-  back : List Action
-  first : Way a cs between front
-  second : Way b between es back
-
-part-loop : {r : ℕ} {x a b c : Block} {cs es : List Bool} {w : List Action} → ((cs es : List Bool) (w : List Action) → Way c cs es w → Parted a b cs es) →
-    Way (loop r x c) cs es w → Parted (loop r x a) b cs es
-part-loop parts (Way.leave {cs = cs} {ds} {w} h) =
-    let m = parts cs ds w h in
-    record { between = m .between; front = m .front; back = m .back; first = Way.leave (m .first); second = m .second }
-part-loop parts (Way.turn {v = v} h k) =
-    let m = part-loop parts k in
-    record { between = m .between; front = v ++ m .front; back = m .back; first = Way.turn h (m .first); second = m .second }
-
-part : (a b : Block) (cs es : List Bool) (w : List Action) → Way (a then b) cs es w → Parted a b cs es
-part Block.done b cs es w h = record { between = cs; front = []; back = w; first = Way.done; second = h }
-part (act r x a) b cs es w (Way.act {w = v} h) =
-    let m = part a b cs es v h in
-    record { between = m .between; front = x ∷ m .front; back = m .back; first = Way.act (m .first); second = m .second }
-part (branch r x y a) b cs es w (Way.branch {ds = ds} {v = u} {w = v} h k) =
-    let m = part a b ds es v k in
-    record { between = m .between; front = u ++ m .front; back = m .back; first = Way.branch h (m .first); second = m .second }
-part (loop r x a) b cs es w h = part-loop (part a b) h
-
--- some way through a block, from the choices cs to the choices es
-pub record HasWay (b : Block) (cs es : List Bool) : Type 0 where
-  pub records : List Action
-  pub way : Way b cs es records
-
-pub way-branch : (r : ℕ) (c : Bool) (x y b : Block) {cs es : List Bool} → HasWay (cond c x y then b) cs es → HasWay (branch r x y b) (c ∷ cs) es
-way-branch r c x y b {cs} {es} h =
-    let m = part (cond c x y) b cs es (h .records) (h .way) in
-    record { records = m .front ++ m .back; way = Way.branch (m .first) (m .second) }
-
-pub way-loop : (r : ℕ) (c : Bool) (x b : Block) {cs es : List Bool} → HasWay (cond c (x then loop r x b) b) cs es → HasWay (loop r x b) (c ∷ cs) es
-way-loop r true x b {cs} {es} h =
-    let m = part x (loop r x b) cs es (h .records) (h .way) in
-    record { records = m .front ++ m .back; way = Way.turn (m .first) (m .second) }
-way-loop r false x b h = record { records = h .records; way = Way.leave (h .way) }
-
-way-same : {b : Block} {cs ds es : List Bool} {v w : List Action} → Way b cs ds v → Way b cs es w → ds ≡ es
-way-same Way.done Way.done = refl
-way-same (Way.act h) (Way.act k) = way-same h k
-way-same (Way.branch {b = b} h h′) (Way.branch {es = es} {w = w} k k′) = way-same h′ (subst (λ z. Way b z es w) (sym (way-same h k)) k′)
-way-same (Way.leave h) (Way.leave k) = way-same h k
-way-same (Way.turn {r = r} {x} {b} h h′) (Way.turn {es = es} {w = w} k k′) = way-same h′ (subst (λ z. Way (loop r x b) z es w) (sym (way-same h k)) k′)
-
-module _ (passes : List Pass) where
-  -- the two parts of a walk through one body 0 and then another
-  record Walked (t u : Body0) (cs : List Bool) (ps : List Pass) (es : List Bool) (rs : List Pass) : Type 0 where
+module _ {A B : Type 0} (Leaf : A → List Bool → List Bool → List B → Type 0) where
+  -- the two parts of a way through one block and then another
+  record Parted (a b : Block A) (cs es : List Bool) (w : List B) : Type 0 where
     between : List Bool
-    called : List Pass
-    first : Walk passes t cs ps between called
-    second : Walk passes u between called es rs
+    front : List B
+    back : List B
+    first : Way Leaf a cs between front
+    second : Way Leaf b between es back
+    whole : front ++ back ≡ w
 
-  walk-loop : {x t u v : Body0} {cs es : List Bool} {ps rs : List Pass} →
-      ((cs es : List Bool) (ps rs : List Pass) → Walk passes v cs ps es rs → Walked t u cs ps es rs) →
-      Walk passes (Body0.loop x v) cs ps es rs → Walked (Body0.loop x t) u cs ps es rs
-  walk-loop parts (Walk.leave {cs = cs} {ds} {ps} {qs} h) =
-      let m = parts cs ds ps qs h in
-      record { between = m .between; called = m .called; first = Walk.leave (m .first); second = m .second }
-  walk-loop parts (Walk.turn h k) =
-      let m = walk-loop parts k in
-      record { between = m .between; called = m .called; first = Walk.turn h (m .first); second = m .second }
+  part-loop : {r : ℕ} {x a b c : Block A} {cs es : List Bool} {w : List B} → ((cs es : List Bool) (w : List B) → Way Leaf c cs es w → Parted a b cs es w) →
+      Way Leaf (loop r x c) cs es w → Parted (loop r x a) b cs es w
+  part-loop parts (leaving {cs = cs} {ds} {w} h) =
+      let m = parts cs ds w h in
+      record { between = m .between; front = m .front; back = m .back; first = leaving (m .first); second = m .second; whole = m .whole }
+  part-loop parts (turning {v = v} h k) =
+      let m = part-loop parts k in
+      record { between = m .between; front = v ++ m .front; back = m .back; first = turning h (m .first); second = m .second; whole = append-assoc v (m .front) (m .back) ∙ ap (λ l. v ++ l) (m .whole) }
 
-  walk-before : (t u : Body0) (cs es : List Bool) (ps rs : List Pass) → Walk passes (t before u) cs ps es rs → Walked t u cs ps es rs
-  walk-before Body0.done u cs es ps rs h = record { between = cs; called = ps; first = Walk.done; second = h }
-  walk-before (Body0.call b t) u cs es ps rs (Walk.call {ds = ds} h k) =
-      let m = walk-before t u ds es (pass-of passes b ∷ ps) rs k in
-      record { between = m .between; called = m .called; first = Walk.call h (m .first); second = m .second }
-  walk-before (Body0.branch x y t) u cs es ps rs (Walk.branch {ds = ds} {qs = qs} h k) =
-      let m = walk-before t u ds es qs rs k in
-      record { between = m .between; called = m .called; first = Walk.branch h (m .first); second = m .second }
-  walk-before (Body0.loop x t) u cs es ps rs h = walk-loop (walk-before t u) h
+  part : (a b : Block A) (cs es : List Bool) (w : List B) → Way Leaf (a then b) cs es w → Parted a b cs es w
+  part Block.done b cs es w h = record { between = cs; front = []; back = w; first = at-end; second = h; whole = refl }
+  part (act r x a) b cs es w (passing {ds = ds} {v = u} {w = v} h k) =
+      let m = part a b ds es v k in
+      record { between = m .between; front = u ++ m .front; back = m .back; first = passing h (m .first); second = m .second; whole = append-assoc u (m .front) (m .back) ∙ ap (λ l. u ++ l) (m .whole) }
+  part (branch r x y a) b cs es w (choosing {ds = ds} {v = u} {w = v} h k) =
+      let m = part a b ds es v k in
+      record { between = m .between; front = u ++ m .front; back = m .back; first = choosing h (m .first); second = m .second; whole = append-assoc u (m .front) (m .back) ∙ ap (λ l. u ++ l) (m .whole) }
+  part (loop r x a) b cs es w h = part-loop (part a b) h
 
-  pub walk-branch : (c : Bool) (x y t : Body0) {cs es : List Bool} {ps rs : List Pass} →
-      Walk passes (cond c x y before t) cs ps es rs → Walk passes (Body0.branch x y t) (c ∷ cs) ps es rs
-  walk-branch c x y t {cs} {es} {ps} {rs} h = let m = walk-before (cond c x y) t cs es ps rs h in Walk.branch (m .first) (m .second)
+  pub way-branch : (r : ℕ) (c : Bool) (x y b : Block A) {cs es : List Bool} {w : List B} → Way Leaf (cond c x y then b) cs es w → Way Leaf (branch r x y b) (c ∷ cs) es w
+  way-branch r c x y b {cs} {es} {w} h =
+      let m = part (cond c x y) b cs es w h in
+      subst (λ l. Way Leaf (branch r x y b) (c ∷ cs) es l) (m .whole) (choosing (m .first) (m .second))
 
-  pub walk-turn : (c : Bool) (x t : Body0) {cs es : List Bool} {ps rs : List Pass} →
-      Walk passes (cond c (x before Body0.loop x t) t) cs ps es rs → Walk passes (Body0.loop x t) (c ∷ cs) ps es rs
-  walk-turn true x t {cs} {es} {ps} {rs} h = let m = walk-before x (Body0.loop x t) cs es ps rs h in Walk.turn (m .first) (m .second)
-  walk-turn false x t h = Walk.leave h
+  pub way-loop : (r : ℕ) (c : Bool) (x b : Block A) {cs es : List Bool} {w : List B} → Way Leaf (cond c (x then loop r x b) b) cs es w → Way Leaf (loop r x b) (c ∷ cs) es w
+  way-loop r true x b {cs} {es} {w} h =
+      let m = part x (loop r x b) cs es w h in
+      subst (λ l. Way Leaf (loop r x b) (true ∷ cs) es l) (m .whole) (turning (m .first) (m .second))
+  way-loop r false x b h = leaving h
 
-  -- the choices determine a walk
-  pub walk-same : {t : Body0} {cs ds es : List Bool} {ps qs rs : List Pass} → Walk passes t cs ps ds qs → Walk passes t cs ps es rs → (ds ≡ es) × (qs ≡ rs)
-  walk-same Walk.done Walk.done = (refl, refl)
-  walk-same (Walk.call {b = b} {t} {ps = ps} h h′) (Walk.call {es = es} {qs = rs} k k′) =
-      walk-same h′ (subst (λ z. Walk passes t z (pass-of passes b ∷ ps) es rs) (sym (way-same h k)) k′)
-  walk-same (Walk.branch {t = t} h h′) (Walk.branch {es = es} {rs = rs} k k′) =
-      let m = walk-same h k in
-      walk-same h′ (subst₂ (λ y z. Walk passes t y z es rs) (sym (m .0)) (sym (m .1)) k′)
-  walk-same (Walk.leave h) (Walk.leave k) = walk-same h k
-  walk-same (Walk.turn {x = x} {t} h h′) (Walk.turn {es = es} {rs = rs} k k′) =
-      let m = walk-same h k in
-      walk-same h′ (subst₂ (λ y z. Walk passes (Body0.loop x t) y z es rs) (sym (m .0)) (sym (m .1)) k′)
+  -- the choices determine a way, if they determine what one record comes to
+  module _ (leaf-same : (x : A) (cs ds es : List Bool) (v w : List B) → Leaf x cs ds v → Leaf x cs es w → (ds ≡ es) × (v ≡ w)) where
+    both : (b : Block A) {ds ds′ es es′ : List Bool} {v v′ w w′ : List B} → (ds ≡ ds′) × (v ≡ v′) → Way Leaf b ds′ es′ w′ →
+        ((es″ : List Bool) (u : List B) → Way Leaf b ds es″ u → (es ≡ es″) × (w ≡ u)) → (es ≡ es′) × (v ++ w ≡ v′ ++ w′)
+    both b {es′ = es′} {w′ = w′} (e, f) k go =
+        let m = go es′ w′ (subst (λ z. Way Leaf b z es′ w′) (sym e) k) in
+        (m .0, ap₂ _++_ f (m .1))
+
+    pub way-same : {b : Block A} {cs ds es : List Bool} {v w : List B} → Way Leaf b cs ds v → Way Leaf b cs es w → (ds ≡ es) × (v ≡ w)
+    way-same at-end at-end = (refl, refl)
+    way-same (passing {b = b} h h′) (passing k k′) = both b (leaf-same _ _ _ _ _ _ h k) k′ (λ es u m. way-same h′ m)
+    way-same (choosing {b = b} h h′) (choosing k k′) = both b (way-same h k) k′ (λ es u m. way-same h′ m)
+    way-same (leaving h) (leaving k) = way-same h k
+    way-same (turning {r = r} {x} {b} h h′) (turning k k′) = both (loop r x b) (way-same h k) k′ (λ es u m. way-same h′ m)
+
+itself-same : (x : Action) (cs ds es : List Bool) (v w : List Action) → Itself x cs ds v → Itself x cs es w → (ds ≡ es) × (v ≡ w)
+itself-same x cs ds es v w itself itself = (refl, refl)
+
+pub called-same : (passes : List Pass) (b : ℕ) (cs ds es : List Bool) (v w : List Pass) → Called passes b cs ds v → Called passes b cs es w → (ds ≡ es) × (v ≡ w)
+called-same passes b cs ds es v w (called h) (called k) = (way-same Itself itself-same h k .0, refl)

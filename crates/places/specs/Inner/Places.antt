@@ -5,6 +5,7 @@ use mathlib.Core.Bool.{cond}
 use mathlib.Core.List.{List}
 use lib.Dec.{eqb}
 use lib.ListN.{length, getD, set}
+use Rattle.model.specs.Records.{Action}
 use Rattle.model.specs.Blocks.{Block, _then_}
 use Rattle.reading.specs.declared.Fields.{Fields}
 use Rattle.reading.specs.Bytes.{record-count, first-arm, second-arm}
@@ -62,12 +63,12 @@ chosen p x choice =
     (cond (eqb choice 0) (skipped p next) (into p (p .at + 1) second (p .at)))
 
 -- what is left behind the innermost of `depth` arms
-unfoldable pub rest-of : List ℕ → List ℕ → ℕ → Block
+unfoldable pub rest-of : List ℕ → List ℕ → ℕ → Block Action
 rest-of f room zero = Block.done
 rest-of f room (suc d) = block-between f (getD room (49 + d) 0) (getD room (33 + d) 0) then rest-of f room d
 
 -- what is left at a place
-unfoldable pub left-of : List ℕ → Spot → Block
+unfoldable pub left-of : List ℕ → Spot → Block Action
 left-of f p = block-between f (p .at) (p .end) then rest-of f (p .room) (p .depth)
 
 -- how many records are left behind the innermost of `depth` arms, and one for the way out of each

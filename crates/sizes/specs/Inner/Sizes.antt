@@ -6,6 +6,7 @@ use mathlib.Core.List.{List}
 use lib.Dec.{eqb}
 use lib.ListN.{getD}
 use Rattle.model.specs.declared.Verdict.the-variants.{Accepted}
+use Rattle.model.specs.Records.{Action}
 use Rattle.model.specs.Blocks.{Block, size}
 use Rattle.model.specs.Expanding.{declared}
 use Rattle.reading.specs.Bytes.{kind-of, body-count, records-in, fields-at}
@@ -18,7 +19,7 @@ pub record DeclaredFile (f : List ℕ) : Type 0 where
   pub kind : kind-of f ≡ 1
 
 -- what stands for a call of body b: what the pass's declarations give, and then its other records
-unfoldable pub called : List ℕ → ℕ → Block
+unfoldable pub called : List ℕ → ℕ → Block Action
 called f b = declared (pass-at f b .declarations) (pass-at f b .body)
 
 -- how many records stand for record r of body 0

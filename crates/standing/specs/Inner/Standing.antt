@@ -10,6 +10,7 @@ use Rattle.model.specs.declared.Verdict.{Verdict}
 use Rattle.model.specs.declared.Verdict.the-variants.{Accepted, Stopped, Refused}
 use Rattle.model.specs.declared.Tally.{Tally}
 use Rattle.model.specs.Sides.{host}
+use Rattle.model.specs.Records.{Action}
 use Rattle.model.specs.Blocks.{Block}
 use Rattle.model.specs.Runs.{Config, Ending, Step, finished, stopped, out-of-choices, step, Run, tally}
 use Rattle.model.specs.Verdicts.{stop}
@@ -102,7 +103,7 @@ pub record Stands (f choices : List ℕ) (m : Runner) (own others latest : List 
   pub few-moved : tally (layout-of f) (k .history) .moved ≤ length (k .history) * 4096
 
 -- the number of the record that comes next
-abbrev pub next-record : Block → ℕ
+abbrev pub next-record : Block Action → ℕ
 next-record Block.done = 0
 next-record (Block.act r x b) = r
 next-record (Block.branch r x y b) = r

@@ -7,6 +7,7 @@ use mathlib.Core.List.{List}
 use lib.Dec.{eqb}
 use lib.ListN.{length, getD}
 use Rattle.model.specs.Sides.{span-of}
+use Rattle.model.specs.Records.{Action}
 use Rattle.model.specs.Blocks.{Block, done, branch, loop}
 use Rattle.model.proofs.Status.{Status}
 use Rattle.model.proofs.Through.{Goes, Stops}
@@ -18,7 +19,7 @@ use Rattle.lookahead.specs.Inner.Ahead.{cell-at, Ahead}
 use Rattle.statuses.specs.Inner.Sets.{statuses, index, In}
 
 -- the body of loop k
-abbrev pub body-of : List ℕ → ℕ → Block
+abbrev pub body-of : List ℕ → ℕ → Block Action
 body-of f k = block-between f (k + 1) (k + 1 + first-arm (fields-at f k))
 
 -- g has the exits of the body of loop k from status w, and `low` is at most each of its stops
@@ -58,10 +59,10 @@ pub record Body (f : List ℕ) (r second : ℕ) : Type 0 where
   pub walk : Walkable f (r + 1) second
 
 -- a branch (kind 6) or a loop
-abbrev pub nest : ℕ → ℕ → Block → Block → Block
+abbrev pub nest : ℕ → ℕ → Block Action → Block Action → Block Action
 nest kind r x y = cond (eqb kind 6) (branch r x y done) (loop r x done)
 
 -- t is what is found of the ways through block b, and the rows are exact again
-pub record Passed (f : List ℕ) (c class : ℕ) (b : Block) (from : Status → Type 0) (low : ℕ) (rows : List ℕ) (t : Found) : Type 0 where
+pub record Passed (f : List ℕ) (c class : ℕ) (b : Block Action) (from : Status → Type 0) (low : ℕ) (rows : List ℕ) (t : Found) : Type 0 where
   pub ran : Ran (Goes (layout-of f) c b) (Stops (layout-of f) c b) from low t
   pub exact : Exact f c class rows (t .low)

@@ -2,6 +2,7 @@
 use Prim.Native.Nat.{ℕ, zero, suc, _<_}
 use mathlib.Core.Path.{_≡_}
 use mathlib.Core.List.{List}
+use Rattle.model.specs.Records.{Action}
 use Rattle.model.specs.Blocks.{Block}
 use Rattle.model.proofs.Status.{Status}
 use Rattle.model.proofs.Through.{Goes, Stops}
@@ -21,6 +22,6 @@ abbrev pub StopsWithin : (Status → Status → Type 0) → (Status → ℕ → 
 StopsWithin R S n u r = (m : ℕ) × (m < n) × ((w : Status) × Power R m u w × S w r)
 
 -- t is what is found of n turns of block x from the statuses of a set
-pub record Repeated (f : List ℕ) (c class : ℕ) (x : Block) (n set low : ℕ) (rows : List ℕ) (t : Found) : Type 0 where
+pub record Repeated (f : List ℕ) (c class : ℕ) (x : Block Action) (n set low : ℕ) (rows : List ℕ) (t : Found) : Type 0 where
   pub ran : Ran (Power (Goes (layout-of f) c x) n) (StopsWithin (Goes (layout-of f) c x) (Stops (layout-of f) c x) n) (In set) low t
   pub exact : Exact f c class rows (t .low)
