@@ -113,11 +113,11 @@ module _ {layout : Layout} {t : Side} {s : Stored} {own others latest : List ℕ
 
   -- memories, flags and tally that hold it hold the state after the record
   as-deed : (y : Action) (d : Deed) (f : ℕ → Flags) {s′ : Stored} {own′ others′ latest′ : List ℕ} → deed y σ ≡ d → ((a : ℕ) → effect layout y σ .flags a ≡ f a) →
-      (Past (after y (d, f)) → Holds layout t s′ own′ others′ latest′ (after y (d, f)) (record { action = y; deed = d } ∷ l)) →
-      Holds layout t s′ own′ others′ latest′ (effect layout y σ) (event y σ ∷ l)
+      (Past (after y (d, f)) → Holds layout t s′ own′ others′ latest′ (after y (d, f)) (record { number = 0; action = y; deed = d } ∷ l)) →
+      Holds layout t s′ own′ others′ latest′ (effect layout y σ) (event 0 y σ ∷ l)
   as-deed y d f {s′} {own′} {others′} {latest′} p q g =
       let e : _≡_ {A = Deed × (ℕ → Flags)} (deed y σ, effect layout y σ .flags) (d, f) = λ i. (p i, λ a. q a i) in
-      subst (λ (z : Deed × (ℕ → Flags)). Holds layout t s′ own′ others′ latest′ (after y z) (record { action = y; deed = z .0 } ∷ l)) (sym e)
+      subst (λ (z : Deed × (ℕ → Flags)). Holds layout t s′ own′ others′ latest′ (after y z) (record { number = 0; action = y; deed = z .0 } ∷ l)) (sym e)
       (g (subst (λ (z : Deed × (ℕ → Flags)). Past (after y z)) e (past-effect layout y σ (h .past))))
 
   -- the cells of y, which are those from `from` up to `to`, get new copies on side t
@@ -184,7 +184,7 @@ module _ {layout : Layout} {t : Side} {s : Stored} {own others latest : List ℕ
     moved-cells : {s′ s″ : Stored} {own′ : List ℕ} (f : ℕ → Flags) → MovesCells a whole from to s own others latest (Done s′) own′ →
         s″ .flags ≡ mask (length (layout .lengths)) (λ b. f b .flag t) → s″ .«other_flags» ≡ mask (length (layout .lengths)) (λ b. f b .flag (other t)) →
         s″ .reads ≡ s′ .reads → s″ .writes ≡ s′ .writes → s″ .moved ≡ s′ .moved → s″ .known ≡ s′ .known →
-        Past (after y (moves (other t) t, f)) → Holds layout t s″ own′ others latest (after y (moves (other t) t, f)) (record { action = y; deed = moves (other t) t } ∷ l)
+        Past (after y (moves (other t) t, f)) → Holds layout t s″ own′ others latest (after y (moves (other t) t, f)) (record { number = 0; action = y; deed = moves (other t) t } ∷ l)
     moved-cells {own′ = own′} f (g, m, e, n) own-flags others-flags r w v q past = record {
       own-room = omega (arith, h .own-room, m .size);
       others-room = h .others-room;

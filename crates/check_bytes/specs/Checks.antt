@@ -9,7 +9,8 @@ use Rattle.check_bytes.specs.declared.Sums.{Sums}
 abbrev pub sums-of : List ℕ → Sums
 sums-of s = record { plain = first-check s; weighted = second-check s }
 
--- the sums of a front and a back, from the front's bytes and the back's sums alone: each byte of the back has a number higher by as many as the front has
+-- the sums of a front and a back, from the front's bytes and the back's sums alone: each byte of the back has a number higher by as many as
+-- the front has
 unfoldable pub onto : List ℕ → Sums → Sums
 onto front back =
     record {

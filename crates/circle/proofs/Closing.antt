@@ -2,13 +2,15 @@
 use Prim.Native.Nat.{ℕ, _≤_, _<_}
 use mathlib.Core.Path.{_≡_, refl, ap, sym, _∙_, subst}
 use mathlib.Core.Logic.{_⊎_, inl, inr}
-use mathlib.Core.Bool.{Bool, true, false, _||_, true≢false}
+use mathlib.Core.Bool.{Bool, true, false, cond, _||_, true≢false}
 use mathlib.Core.List.{List, [], _∷_}
 use native.Mathlib.Omega.{arith}
 use lib.Dec.{ltb}
 use lib.ListN.{length, getD, drop, List·getD-append}
 use borrow.Author.Tests.{eq-eqb, le-ltb}
+use Rattle.model.specs.declared.Verdict.{Verdict}
 use Rattle.model.specs.declared.Verdict.the-variants.{Accepted, Refused}
+use Rattle.model.specs.Verdicts.{accepted}
 use Rattle.model.specs.Sides.{Side, host, card, at, Layout, cell-count}
 use Rattle.model.specs.Blocks.{size, Plan}
 use Rattle.model.specs.Runs.{Config, Ending, finished, stopped, out-of-choices, Ends, tally}
@@ -21,7 +23,7 @@ use Rattle.reading.specs.Bytes.{kind-of, table, layout-of}
 use Rattle.reading.proofs.Tables.{length-table, getD-table}
 use Rattle.format.specs.Opening.{open-rows, opening}
 use Rattle.memories.specs.Memories.{number-of}
-use Rattle.model.specs.Rows.{row, first}
+use Rattle.model.specs.Rows.{row, answer-of}
 use Rattle.format.specs.Plans.{plan-of, declared-plan-of}
 use Rattle.judge.specs.Judged.{judged}
 use Rattle.judge.proofs.Rules.{accepted-rules}
@@ -30,26 +32,26 @@ use Rattle.circle.proofs.Opens.{expansion-opens}
 use Rattle.circle.proofs.Runs.{file-demand3}
 use Rattle.circle.proofs.Writes.{judged-and-small}
 use Rattle.model.specs.declared.End.{End}
-use Rattle.run.specs.Running.{Lent, run-rows, memory, holding, end-of, Ran, RunsAs, Runs}
+use Rattle.run.specs.Running.{Lent, Roomy, run-rows, memory, holding, no-end, end-of, Ran, Runs}
 use Rattle.standing.specs.Choices.{choices-of}
 use Rattle.circle.specs.Claims.{ClaimRuns}
-use Rattle.circle.specs.Closing.{Adds, Roomy, DoneOrSpent, Kept, ExpansionRun}
+use Rattle.circle.specs.Closing.{Adds, DoneOrSpent, Kept, ExpansionRun}
 
 -- a cell of a memory that holds the cells of a plan
 held-at : (n : ℕ) (held : ℕ → ℕ) (old : List ℕ) (c : ℕ) → c < n → getD (memory n held old) c 0 ≡ held c
 unfolding memory
 held-at n held old c l = List·getD-append (table held n) (drop n old) 0 c (rw (length-table held n) l) ∙ getD-table held n c 0 l
 
-module _ (f : List ℕ) (accepted : judged f ≡ Accepted) (small : size (expansion-of f .body) ≤ 1024) (choices : List ℕ) (before after : Lent) (answer : End) where
+module _ (f : List ℕ) (judges : judged f ≡ Accepted) (small : size (expansion-of f .body) ≤ 1024) (choices : List ℕ) (before after : Lent) (answer : End) where
   same-plan : plan-of (expansion-file f) ≡ expansion-of f
-  same-plan = expansion-opens f accepted small .2
+  same-plan = expansion-opens f judges small .2
 
   -- a run that is done, and what its tally then is
   adds : (k : Config) → Ends (expansion-of f) (choices-of choices) k finished → after .tally .moved ≡ tally (layout-of f) (k .history) .moved → Adds f choices after
   unfolding declared-plan-of
   adds k h t =
-      let m = moves-add (declared-plan-of f) (accepted-rules f .0 accepted .2) (choices-of choices) k h in
-      record { config = k; ends = h; moved = m .0; adds = t ∙ m .1 }
+      let m = moves-add (declared-plan-of f) (accepted-rules f .0 judges .2) (choices-of choices) k h in
+      record { config = k; ends = h; exact = m .0; adds = t ∙ m .1 }
 
   same-layout : layout-of (expansion-file f) ≡ layout-of f
   unfolding plan-of declared-plan-of
@@ -73,22 +75,25 @@ module _ (f : List ℕ) (accepted : judged f ≡ Accepted) (small : size (expans
     kept : Kept f choices before after
     unfolding declared-plan-of
     kept =
-        let d = file-demand3 f accepted (choices-of choices) in
+        let d = file-demand3 f judges (choices-of choices) in
         record {
           config = k;
           ending = x;
           ends = h;
           holds = m;
           current = λ c l. let w = d .always-current k (h .run) c l in one-current (w .0) c l (w .1);
-          reads = d .reads-latest;
         }
 
+  neither : {n p : ℕ} → answer .verdict ≡ Refused n p → (n ≡ 22 → ⊥) → DoneOrSpent (answer .verdict) → ⊥
+  neither h other (inl e) = let z : _≡_ {A = ℕ} 0 1 = cc in omega arith
+  neither h other (inr (r, e)) = other (cc)
+
   -- a refusal before the run is 19 or 20
-  refused : (n p : ℕ) → answer .verdict ≡ Refused n p → (n ≡ 22 → ⊥) → (Roomy f choices before → ⊥) → ExpansionRun f choices before after answer
+  refused : (n p : ℕ) → answer .verdict ≡ Refused n p → (n ≡ 22 → ⊥) → (Roomy (cell-count (layout-of f)) before → length choices ≤ 65536 → ⊥) → ExpansionRun f choices before after answer
   refused n p h other short = record {
     unstopped = λ r c u. let z : _≡_ {A = ℕ} 0 1 = cc in omega arith;
-    ended = λ r. absurd (short r);
-    kept = λ w. absurd (other (subst DoneOrSpent h w));
+    ended = λ r l. absurd (short r l);
+    kept = λ w. absurd (neither h other w);
     done = λ u. let z : _≡_ {A = ℕ} 0 1 = cc in absurd (omega arith);
   }
 
@@ -102,14 +107,14 @@ module _ (f : List ℕ) (accepted : judged f ≡ Accepted) (small : size (expans
           answer .verdict ≡ end-of (layout-of (expansion-file f)) (choices-of choices) (r .config) x .verdict → ExpansionRun f choices before after answer
       go finished h m u = record {
         unstopped = λ n c v. let z : _≡_ {A = ℕ} 0 1 = cc in omega arith;
-        ended = λ w. subst DoneOrSpent (sym u) tt;
+        ended = λ w l. inl u;
         kept = λ w. kept (r .config) finished h m;
         done = λ v. adds (r .config) h (ap (λ (x : Lent). x .tally .moved) m);
       }
-      go (stopped n c) h m u = absurd (file-demand3 f accepted (choices-of choices) .never-stuck (r .config) n c h)
+      go (stopped n c) h m u = absurd (file-demand3 f judges (choices-of choices) .never-stuck (r .config) n c h)
       go (out-of-choices n) h m u = record {
         unstopped = λ n c v. let z : _≡_ {A = ℕ} 0 1 = cc in omega arith;
-        ended = λ w. subst DoneOrSpent (sym u) refl;
+        ended = λ w l. inr (n, u);
         kept = λ w. kept (r .config) (out-of-choices n) h m;
         done = λ v. let z : _≡_ {A = ℕ} 0 1 = cc in absurd (omega arith);
       }
@@ -118,24 +123,27 @@ module _ (f : List ℕ) (accepted : judged f ≡ Accepted) (small : size (expans
   short : Bool
   short = let n = cell-count (layout-of (expansion-file f)) in ltb (length (before .host)) n || ltb (length (before .card)) n || ltb (length (before .latest)) n
 
-  rows : first (run-rows (expansion-file f) choices before) ≡ first (row short 19 0 ∷ row (ltb 65536 (length choices)) 20 0 ∷ [])
+  rows : answer-of (run-rows (expansion-file f) choices before) ≡ answer-of (row short 19 0 ∷ row (ltb 65536 (length choices)) 20 0 ∷ [])
   unfolding run-rows opening short
   rows =
-      let o = expansion-opens f accepted small in
+      let o = expansion-opens f judges small in
       sym (pass (open-rows (expansion-file f)) _ _ (sym (o .0)) (skips _ _ _ _ _ (rw (eq-eqb (kind-of (expansion-file f)) 2 (o .1))) refl))
 
-  long : Roomy f choices before → short ≡ false
+  long : Roomy (cell-count (layout-of f)) before → short ≡ false
   unfolding short
   long w = rw (ap (λ (y : Layout). y .lengths) same-layout, le-ltb _ _ (w .0), le-ltb _ _ (w .1), le-ltb _ _ (w .2))
 
-  runs-as : RunsAs (expansion-file f) choices before after answer (first (run-rows (expansion-file f) choices before)) → ExpansionRun f choices before after answer
-  unfolding first
-  runs-as r = go short refl (ltb 65536 (length choices)) refl (subst (RunsAs (expansion-file f) choices before after answer) rows r)
+  -- what the run promises, by what the rows say
+  abbrev promised : Verdict → Type 0
+  promised v = cond (accepted v) (Ran (expansion-file f) choices before after answer) ((after ≡ before) × (answer ≡ no-end v))
+
+  runs-as : promised (answer-of (run-rows (expansion-file f) choices before)) → ExpansionRun f choices before after answer
+  unfolding answer-of
+  runs-as r = go short refl (ltb 65536 (length choices)) refl (subst promised rows r)
     where
-      go : (s : Bool) → short ≡ s → (t : Bool) → ltb 65536 (length choices) ≡ t →
-          RunsAs (expansion-file f) choices before after answer (first (row s 19 0 ∷ row t 20 0 ∷ [])) → ExpansionRun f choices before after answer
-      go true e t d r = refused 19 0 (ap (λ (x : End). x .verdict) (r .1)) (λ z. omega arith) (λ w. true≢false (sym e ∙ long w))
-      go false e true d r = refused 20 0 (ap (λ (x : End). x .verdict) (r .1)) (λ z. omega arith) (λ w. true≢false (sym d ∙ le-ltb _ _ (w .3)))
+      go : (s : Bool) → short ≡ s → (t : Bool) → ltb 65536 (length choices) ≡ t → promised (answer-of (row s 19 0 ∷ row t 20 0 ∷ [])) → ExpansionRun f choices before after answer
+      go true e t d r = refused 19 0 (ap (λ (x : End). x .verdict) (r .1)) (λ z. omega arith) (λ w l. true≢false (sym e ∙ long w))
+      go false e true d r = refused 20 0 (ap (λ (x : End). x .verdict) (r .1)) (λ z. omega arith) (λ w l. true≢false (sym d ∙ le-ltb _ _ l))
       go false e false d r = ran r
 
 -- whatever the choices and the lent memories

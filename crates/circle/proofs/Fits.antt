@@ -7,13 +7,14 @@ use native.Nat.{ℕᴺ-discrete}
 use native.Mathlib.Decide.{decLt}
 use native.Mathlib.Omega.{arith}
 use lib.Dec.{ltb, leb, eqb}
-use lib.ListN.{length}
+use lib.ListN.{length, getD}
 use borrow.Author.Tests.{ltb-true, ltb-false, le-leb, ne-eqb}
 use Rattle.model.specs.declared.Verdict.the-variants.{Accepted}
 use Rattle.model.specs.Sides.{side-number, span-of}
 use Rattle.model.specs.Records.{Verb, read, write, copy, need, mark, Action}
 use Rattle.model.specs.Blocks.{Block, size}
-use Rattle.model.specs.Judging.{Declaration, Pass, no-pass, pass-of}
+use Rattle.model.specs.Judging.{Declaration, Pass, pass-of}
+use Rattle.model.specs.Inner.Declared.{no-pass}
 use Rattle.model.specs.Expanding.{expand}
 use Rattle.model.proofs.Booleans.{and-out, and-in}
 use Rattle.model.proofs.Stamps.{as-verb}
@@ -23,7 +24,8 @@ use Rattle.rules.specs.Rules.{fields-fit, deepest}
 use Rattle.format.specs.Opening.{opening}
 use Rattle.format.specs.Plans.{action-of, declaration-of, pass-at, declared-plan-of}
 use Rattle.files.specs.Files.{action-fields}
-use Rattle.files.specs.Bounds.{all, arrays-fit, action-fits, block-fits, plain-fits}
+use Rattle.files.specs.Bounds.{all-pass, arrays-fit, action-fits, plain-fits}
+use Rattle.files.specs.Inner.Short.{block-fits}
 use Rattle.format.specs.Inner.Walks.{Good, block-between, body0-between}
 use Rattle.reading.proofs.Ranges.{in-range}
 use Rattle.reading.proofs.Tables.{length-table, arrays-counted, array-length, next-record}
@@ -38,21 +40,20 @@ use Rattle.circle.proofs.Levels.{more-levels, branch-fits, loop-fits, t
 
 -- a test that each entry of a table passes
 module _ {A : Type 0} (test : A → Bool) where
-  all-append : (l m : List A) → all test l ≡ true → all test m ≡ true → all test (l ++ m) ≡ true
+  all-append : (l m : List A) → all-pass test l ≡ true → all-pass test m ≡ true → all-pass test (l ++ m) ≡ true
   all-append [] m e h = h
-  all-append (x ∷ l) m e h = let k = and-out (test x) (all test l) e in and-in _ _ (k .0) (all-append l m (k .1) h)
+  all-append (x ∷ l) m e h = let k = and-out (test x) (all-pass test l) e in and-in _ _ (k .0) (all-append l m (k .1) h)
 
-  all-table : (g : ℕ → A) (n : ℕ) → ((i : ℕ) → i < n → test (g i) ≡ true) → all test (table g n) ≡ true
+  all-table : (g : ℕ → A) (n : ℕ) → ((i : ℕ) → i < n → test (g i) ≡ true) → all-pass test (table g n) ≡ true
   unfolding table
   all-table g zero h = refl
   all-table g (suc n) h = all-append (table g n) (g n ∷ []) (all-table g n (λ i k. h i (omega arith))) (and-in _ _ (h n (omega arith)) refl)
 
 -- a test that all passes and the one of no records pass: whatever a call calls passes it
-all-called : (test : Pass → Bool) → test no-pass ≡ true → (ps : List Pass) (b : ℕ) → all test ps ≡ true → test (pass-of ps b) ≡ true
-all-called test e [] b h = e
-all-called test e (p ∷ ps) zero h = e
-all-called test e (p ∷ ps) (suc zero) h = and-out (test p) (all test ps) h .0
-all-called test e (p ∷ ps) (suc (suc b)) h = all-called test e ps (suc b) (and-out (test p) (all test ps) h .1)
+all-called : (test : Pass → Bool) → test no-pass ≡ true → (ps : List Pass) (i : ℕ) → all-pass test ps ≡ true → test (getD ps i no-pass) ≡ true
+all-called test e [] i h = e
+all-called test e (p ∷ ps) zero h = and-out (test p) (all-pass test ps) h .0
+all-called test e (p ∷ ps) (suc i) h = all-called test e ps i (and-out (test p) (all-pass test ps) h .1)
 
 -- a record whose fields fit, as an action and as a declaration
 module _ (f : List ℕ) where
@@ -152,7 +153,7 @@ module _ (f : List ℕ) (w : Facts f) (kind : kind-of f ≡ 1) where
 
   -- a pass whose declarations are of the plan's arrays and whose other records fit 8 levels
   abbrev called-fits : Pass → Bool
-  called-fits p = all (λ (d : Declaration). ltb (d .array) (length (lengths-of f))) (p .declarations) && block-fits (layout-of f) 8 (p .body)
+  called-fits p = all-pass (λ (d : Declaration). ltb (d .array) (length (lengths-of f))) (p .declarations) && block-fits (layout-of f) 8 (p .body)
 
   module _ (b : ℕ) (p : 1 ≤ b) (l : b < body-count f) where
     abbrev until : ℕ
@@ -169,7 +170,7 @@ module _ (f : List ℕ) (w : Facts f) (kind : kind-of f ≡ 1) where
           rw (block-act f r end m (walk-of g) (fields-at f r) refl j k) (and-in _ _ (action-fit f (fields-at f r) (t .fits) (kinds .0) (omega arith)) rest);
     }
 
-    declarations-fit : all (λ (d : Declaration). ltb (d .array) (length (lengths-of f))) (pass-at f b .declarations) ≡ true
+    declarations-fit : all-pass (λ (d : Declaration). ltb (d .array) (length (lengths-of f))) (pass-at f b .declarations) ≡ true
     unfolding pass-at
     declarations-fit = all-table _ _ (declarations-in f b) λ i h.
         let g = pass-good f w kind b p l i (omega arith) in
@@ -185,7 +186,7 @@ module _ (f : List ℕ) (w : Facts f) (kind : kind-of f ≡ 1) where
   abbrev passes : List Pass
   passes = declared-plan-of f .passes
 
-  passes-fit : all called-fits passes ≡ true
+  passes-fit : all-pass called-fits passes ≡ true
   unfolding declared-plan-of
   passes-fit = all-table called-fits (λ b. pass-at f (suc b)) (body-count f - 1) (λ b h. pass-fits (suc b) (omega arith) (omega arith))
 
@@ -197,7 +198,7 @@ module _ (f : List ℕ) (w : Facts f) (kind : kind-of f ≡ 1) where
     loop = λ depth r end m g k. (r, ap (expand passes) (body0-loop f r end m (walk-of g) (fields-at f r) refl k));
     other = λ levels depth r end d e h m g j k rest.
         let called = pass-of passes (fields-at f r .p) in
-        let fit = and-out (all (λ (c : Declaration). ltb (c .array) (length (lengths-of f))) (called .declarations)) (block-fits (layout-of f) 8 (called .body)) (all-called called-fits refl passes (fields-at f r .p) passes-fit) in
+        let fit = and-out (all-pass (λ (c : Declaration). ltb (c .array) (length (lengths-of f))) (called .declarations)) (block-fits (layout-of f) 8 (called .body)) (all-called called-fits refl passes (fields-at f r .p - 1) passes-fit) in
         rw (ap (expand passes) (body0-call f r end m (walk-of g) (fields-at f r) refl j k))
         (declared-fits (layout-of f) (called .declarations) _ levels (fit .0) (then-fits (layout-of f) (called .body) _ levels (more-levels (layout-of f) (called .body) 8 levels (omega arith) (fit .1)) rest));
   }

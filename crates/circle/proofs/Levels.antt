@@ -10,9 +10,11 @@ use Rattle.model.specs.Sides.{Side, Layout}
 use Rattle.model.specs.Records.{Action}
 use Rattle.model.specs.Blocks.{Block, size, _then_, numbered}
 use Rattle.model.specs.Judging.{Mode, R, W, RW, Declaration}
-use Rattle.model.specs.Expanding.{given, declared}
+use Rattle.model.specs.Expanding.{given}
+use Rattle.model.specs.Inner.Declared.{declaration, declared}
 use Rattle.model.proofs.Booleans.{and-out, and-in}
-use Rattle.files.specs.Bounds.{all, action-fits, block-fits}
+use Rattle.files.specs.Bounds.{all-pass, action-fits}
+use Rattle.files.specs.Inner.Short.{block-fits}
 use Rattle.files.proofs.Blocks.{numbered-size}
 
 module _ (layout : Layout) where
@@ -61,15 +63,15 @@ module _ (layout : Layout) where
       and-in _ _ (fit .0) (then-fits a b (suc n) (fit .1) h)
 
   -- "R gives need; W gives mark; RW gives need, mark"
-  given-fits : (m : Mode) (s : Side) (a : ℕ) (b : Block Action) (n : ℕ) → ltb a (length (layout .lengths)) ≡ true → block-fits layout n b ≡ true → block-fits layout n (given m s a b) ≡ true
+  given-fits : (m : Mode) (s : Side) (a : ℕ) (b : Block Action) (n : ℕ) → ltb a (length (layout .lengths)) ≡ true → block-fits layout n b ≡ true → block-fits layout n (given (declaration m s a) b) ≡ true
   given-fits R s a b n e h = rw e h
   given-fits W s a b n e h = rw e h
   given-fits RW s a b n e h = rw e h
 
-  pub declared-fits : (ds : List Declaration) (b : Block Action) (n : ℕ) → all (λ (d : Declaration). ltb (d .array) (length (layout .lengths))) ds ≡ true → block-fits layout n b ≡ true → block-fits layout n (declared ds b) ≡ true
+  pub declared-fits : (ds : List Declaration) (b : Block Action) (n : ℕ) → all-pass (λ (d : Declaration). ltb (d .array) (length (layout .lengths))) ds ≡ true → block-fits layout n b ≡ true → block-fits layout n (declared ds b) ≡ true
   declared-fits [] b n e h = h
   declared-fits (d ∷ ds) b n e h =
-      let fit = and-out (ltb (d .array) (length (layout .lengths))) (all (λ (d : Declaration). ltb (d .array) (length (layout .lengths))) ds) e in
+      let fit = and-out (ltb (d .array) (length (layout .lengths))) (all-pass (λ (d : Declaration). ltb (d .array) (length (layout .lengths))) ds) e in
       given-fits (d .mode) (d .side) (d .array) (declared ds b) n (fit .0) (declared-fits ds b n (fit .1) h)
 
   pub numbered-fits : (r : ℕ) (b : Block Action) (n : ℕ) → block-fits layout n (numbered r b) ≡ block-fits layout n b

@@ -2,8 +2,9 @@
 use mathlib.Core.Path.{_≡_}
 use mathlib.Core.List.{List}
 use Prim.Native.Nat.{ℕ}
+use borrow.Author.Tests.{eq-eqb}
 use Rattle.model.specs.declared.Verdict.the-variants.{Accepted}
-use Rattle.model.specs.Check.{Answers, Stuck}
+use Rattle.model.specs.Check.{Answers}
 use Rattle.model.proofs.Stuck.{accepted-iff}
 use Rattle.model.proofs.Demand3.{demand3}
 use Rattle.format.specs.Plans.{declared-plan-of}
@@ -17,15 +18,11 @@ use Rattle.circle.proofs.Writes.{judged-and-small}
 pub file-demand3 : ClaimFile3
 file-demand3 f accepted = demand3 (declared-plan-of f) (accepted-rules f .0 accepted .2)
 
-module _ (f : List ℕ) (accepted : judged f ≡ Accepted) where
-  unstuck : Stuck (expansion-of f) → ⊥
-  unstuck s = file-demand3 f accepted (s .choices) .never-stuck (s .config) (s .number) (s .cell) (s .ends)
-
-  expansion-accepted : Answers (expansion-of f) Accepted
-  expansion-accepted = accepted-iff (expansion-of f) .1 unstuck
+expansion-accepted : (f : List ℕ) → judged f ≡ Accepted → Answers (expansion-of f) Accepted
+expansion-accepted f accepted = accepted-iff (expansion-of f) .1 (λ cs. file-demand3 f accepted cs .never-stuck)
 
 pub written-opens : ClaimOpens
 written-opens f out e =
     let (accepted, few) = judged-and-small f out e in
     let (opens, kind, same) = expansion-opens f accepted few in
-    (opens, kind, same, rw same (expansion-accepted f accepted))
+    (opens, eq-eqb _ _ kind, same, rw same (expansion-accepted f accepted))

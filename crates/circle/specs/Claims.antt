@@ -1,19 +1,18 @@
 -- What is proved of what the expander writes: each theorem that a reader relies on, by name, with the place of its proof.
 use Prim.Native.Nat.{ℕ}
 use mathlib.Core.Path.{_≡_}
-use mathlib.Core.Bool.{Bool}
-use mathlib.Core.List.{List, _++_}
-use lib.ListN.{length, drop}
+use mathlib.Core.Bool.{Bool, true}
+use mathlib.Core.List.{List}
 use Rattle.model.specs.declared.Verdict.the-variants.{Accepted}
 use Rattle.model.specs.declared.End.{End}
 use Rattle.model.specs.Check.{Answers}
 use Rattle.model.specs.Demand.{Demand3}
-use Rattle.reading.specs.Bytes.{kind-of}
+use Rattle.reading.specs.Bytes.{is-plain}
 use Rattle.format.specs.Opening.{opening}
 use Rattle.format.specs.Plans.{plan-of, declared-plan-of}
 use Rattle.judge.specs.Judged.{judged}
 use Rattle.files.specs.Expansions.{expansion-of, expansion-file}
-use Rattle.expand.specs.Expanded.{expand-answer, expanded}
+use Rattle.expand.specs.Expanded.{expand-answer}
 use Rattle.run.specs.Running.{Lent, Runs}
 use Rattle.circle.specs.Closing.{ExpansionRun}
 
@@ -21,15 +20,11 @@ use Rattle.circle.specs.Closing.{ExpansionRun}
 abbrev pub ClaimFile3 : Type 0
 ClaimFile3 = (f : List ℕ) → judged f ≡ Accepted → (cs : List Bool) → Demand3 (declared-plan-of f) cs
 
--- CLAIM (proofs/Writes, `file-written`): where the expander accepts, the output begins with the expansion's file, and its rest is as it was
-abbrev pub ClaimWritten : Type 0
-ClaimWritten = (f out : List ℕ) → expand-answer f out ≡ Accepted → expanded f out ≡ expansion-file f ++ drop (length (expansion-file f)) out
-
--- CLAIM (proofs/Runs, `written-opens`): what it writes opens as a plain plan, which is the expansion, and which the check accepts
+-- CLAIM (proofs/Runs, `written-opens`): what the expander writes opens as a plain plan, which is the expansion, and which the check accepts
 abbrev pub ClaimOpens : Type 0
 ClaimOpens = (f out : List ℕ) → expand-answer f out ≡ Accepted →
     (opening (expansion-file f) ≡ Accepted)
-    × (kind-of (expansion-file f) ≡ 2)
+    × (is-plain (expansion-file f) ≡ true)
     × (plan-of (expansion-file f) ≡ expansion-of f)
     × Answers (plan-of (expansion-file f)) Accepted
 

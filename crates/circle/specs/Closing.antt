@@ -2,45 +2,34 @@
 use Prim.Native.Nat.{ℕ, _≤_, _<_}
 use mathlib.Core.Path.{_≡_}
 use mathlib.Core.Logic.{_⊎_}
-use mathlib.Core.Bool.{true}
 use mathlib.Core.List.{List}
 use lib.ListN.{length, getD}
 use Rattle.model.specs.declared.Verdict.{Verdict}
 use Rattle.model.specs.declared.Record.{Record}
 use Rattle.model.specs.declared.Cell.{Cell}
 use Rattle.model.specs.declared.Verdict.the-variants.{Accepted, Stopped, Refused}
-use Rattle.model.specs.Sides.{at, cell-count}
-use Rattle.model.specs.Records.{read, Action, covers}
-use Rattle.model.specs.Blocks.{Block, act}
-use Rattle.model.specs.Runs.{Config, Ending, finished, Run, Ends}
-use Rattle.model.specs.Demand.{latest-write, moved-cells, Moves}
+use Rattle.model.specs.Sides.{cell-count}
+use Rattle.model.specs.Runs.{Config, Ending, finished, Ends, tally}
+use Rattle.model.specs.Demand.{events-of, ExactMoves}
 use Rattle.reading.specs.Bytes.{layout-of}
 use Rattle.format.specs.Plans.{declared-plan-of}
 use Rattle.files.specs.Expansions.{expansion-of}
 use Rattle.model.specs.declared.End.{End}
-use Rattle.run.specs.Running.{Lent, holding}
+use Rattle.run.specs.Running.{Lent, Roomy, holding}
 use Rattle.standing.specs.Choices.{choices-of}
 
 -- of a run that is done: its moves are those of demand 3, and the tally counts the cells that they come to
 pub record Adds (f choices : List ℕ) (after : Lent) : Type 0 where
   pub config : Config
   pub ends : Ends (expansion-of f) (choices-of choices) config finished
-  pub moved : Moves (declared-plan-of f) (choices-of choices) config
-  pub adds : after .tally .moved ≡ moved-cells (layout-of f) (moved .made)
-
--- numbers 19 and 20 do not hold: the memories are long enough, and the choices are at most 65,536
-abbrev pub Roomy : List ℕ → List ℕ → Lent → Type 0
-Roomy f choices before =
-    let n = cell-count (layout-of f) in
-    (n ≤ length (before .host)) × (n ≤ length (before .card)) × (n ≤ length (before .latest)) × (length choices ≤ 65536)
+  pub exact : ExactMoves (declared-plan-of f) (choices-of choices) config
+  pub adds : after .tally .moved ≡ tally (layout-of f) (events-of (exact .made)) .moved
 
 -- done, or "22 choices spent (record)"
 abbrev pub DoneOrSpent : Verdict → Type 0
-DoneOrSpent Accepted = Unit {0}
-DoneOrSpent (Stopped r c) = ⊥
-DoneOrSpent (Refused number place) = number ≡ 22
+DoneOrSpent v = (v ≡ Accepted) ⊎ ((r : ℕ) × (v ≡ Refused 22 r))
 
--- of a run that is done or out of choices
+-- of a run that is done or out of choices (its reads: `ClaimFile3`)
 pub record Kept (f choices : List ℕ) (before after : Lent) : Type 0 where
   -- memories and tally hold the state in which the run of the expansion ends
   pub config : Config
@@ -50,14 +39,12 @@ pub record Kept (f choices : List ℕ) (before after : Lent) : Type 0 where
   -- each cell of the lent memories is current on some side
   pub current : (c : ℕ) → c < cell-count (layout-of f) →
       (getD (after .host) c 0 ≡ getD (after .latest) c 0) ⊎ (getD (after .card) c 0 ≡ getD (after .latest) c 0)
-  -- each read that the run came to got, in each of its cells, the stamp of the latest write
-  pub reads : (k : Config) → Run (expansion-of f) (choices-of choices) k → (r : ℕ) (x : Action) (b : Block Action) → k .left ≡ act r x b → x .verb ≡ read →
-      (c : ℕ) → c < cell-count (layout-of f) → covers (layout-of f) x c ≡ true → k .state .cell c .held (x .side) ≡ at (latest-write (layout-of f) (k .history) c)
 
 -- what is claimed of a run of the expansion's file, whatever the choices and the lent memories
 pub record ExpansionRun (f choices : List ℕ) (before after : Lent) (answer : End) : Type 0 where
   -- no stop: the answer is never 21
   pub unstopped : (r : Record) (c : Cell) → answer .verdict ≡ Stopped r c → ⊥
-  pub ended : Roomy f choices before → DoneOrSpent (answer .verdict)
+  -- where 19 and 20 do not hold, the run is done or out of choices
+  pub ended : Roomy (cell-count (layout-of f)) before → length choices ≤ 65536 → DoneOrSpent (answer .verdict)
   pub kept : DoneOrSpent (answer .verdict) → Kept f choices before after
   pub done : answer .verdict ≡ Accepted → Adds f choices after

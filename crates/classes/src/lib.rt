@@ -1,6 +1,6 @@
 // Which cells share a walk, and the answer with the cell of one walk more.
 ghost use mathlib.Core.Path.{_≡_};
-ghost use Rattle.model.proofs.Check.{with-cell};
+ghost use Rattle.model.specs.Inner.Lowest.{with-cell};
 ghost use Rattle.reading.specs.Bytes.{record-count};
 ghost use Rattle.format.specs.Inner.Walks.{Plain, Starts};
 ghost use Rattle.statuses.specs.Inner.Sets.{record-of};

@@ -11,10 +11,10 @@ use borrow.Author.Tests.{ltb-false, eqb-true, not-false}
 use Rattle.model.proofs.Booleans.{or-none, or-out, and-out}
 use Rattle.model.specs.declared.Verdict.the-variants.{Accepted}
 use Rattle.model.specs.Sides.{cell-count, span-of}
-use Rattle.model.specs.Rows.{first, each}
-use Rattle.reading.specs.Bytes.{kind-of, array-count, body-count, length-at, layout-of, records-in, declarations-in, last-of-entry, sizes-of, first-record, record-count, bodies-at, between, lengths-of}
+use Rattle.model.specs.Rows.{answer-of, all-rows}
+use Rattle.reading.specs.Bytes.{kind-of, array-count, body-count, length-at, layout-of, records-in, declarations-in, sizes-of, first-record, record-count, bodies-at, between, lengths-of, byte-at, entry-at}
 use Rattle.frame.specs.Frame.{header-fits, header-rows, tail-rows}
-use Rattle.contents.specs.Contents.{array-rows, body-rows, contents-rows, front-rows}
+use Rattle.contents.specs.Contents.{array-rows, entry-rows, contents-rows, front-rows}
 use Rattle.reading.proofs.Ranges.{of-range}
 use Rattle.model.proofs.Rows.{skipped, passed, each-passed}
 use Rattle.reading.proofs.Tables.{first-zero, all-cells}
@@ -37,7 +37,7 @@ pub record Bounds (f : List ℕ) : Type 0 where
   pub long : length f ≡ bodies-at f + 8 * record-count f + 2
 
 module _ (f : List ℕ) where
-  pub header-bounds : Accepted ≡ first (header-rows f) → Header f
+  pub header-bounds : Accepted ≡ answer-of (header-rows f) → Header f
   unfolding header-rows header-fits
   header-bounds e =
       let kinds = between 1 2 (kind-of f) in
@@ -55,39 +55,39 @@ module _ (f : List ℕ) where
         plain = λ k. ⊎-elim (λ u. let v : kind-of f ≡ 1 = eqb-true _ _ u in absurd (omega arith)) (eqb-true _ _) (or-out (eqb (kind-of f) 1) _ (w₂ .1));
       }
 
-  array-bounds : (a : ℕ) → Accepted ≡ first (array-rows f a) → ((1 ≤ length-at f a) × (length-at f a ≤ 4096)) × (span-of (layout-of f) (suc a) .first ≤ 4096)
+  array-bounds : (a : ℕ) → Accepted ≡ answer-of (array-rows f a) → ((1 ≤ length-at f a) × (length-at f a ≤ 4096)) × (span-of (layout-of f) (suc a) .first ≤ 4096)
   unfolding array-rows
   array-bounds a e =
       let w = or-none (not (between 1 4096 (length-at f a))) _ (skipped _ _ _ _ e .0) in
       (of-range 1 4096 _ (not-false _ (w .0)), ltb-false _ _ (w .1))
 
-  cells-bound : (n : ℕ) → Accepted ≡ first (each n (array-rows f)) → span-of (layout-of f) n .first ≤ 4096
+  cells-bound : (n : ℕ) → Accepted ≡ answer-of (all-rows n (array-rows f)) → span-of (layout-of f) n .first ≤ 4096
   cells-bound zero e = omega (arith, first-zero (lengths-of f))
   cells-bound (suc n) e = array-bounds n (each-passed (array-rows f) (suc n) n e (omega arith)) .1
 
-  body-bounds : (b : ℕ) → Accepted ≡ first (body-rows f b) → (declarations-in f b ≤ records-in f b) × ((eqb b 0 && not (eqb (declarations-in f b) 0)) ≡ false) × (first-record f (suc b) ≤ 1024)
-  unfolding body-rows
+  body-bounds : (b : ℕ) → Accepted ≡ answer-of (entry-rows f b) → (declarations-in f b ≤ records-in f b) × ((eqb b 0 && not (eqb (declarations-in f b) 0)) ≡ false) × (first-record f (suc b) ≤ 1024)
+  unfolding entry-rows
   body-bounds b e =
-      let z = not (eqb (last-of-entry f b) 0) in
+      let z = not (eqb (byte-at f (entry-at f b + 3)) 0) in
       let more = ltb (records-in f b) (declarations-in f b) in
       let main = eqb b 0 && not (eqb (declarations-in f b) 0) in
       let w₁ = or-none (z || more || main) _ (skipped _ _ _ _ e .0) in
       let w₂ = or-none (z || more) main (w₁ .0) in
       (ltb-false _ _ (or-none z more (w₂ .0) .1), w₂ .1, ltb-false _ _ (w₁ .1))
 
-  records-bound : (n : ℕ) → Accepted ≡ first (each n (body-rows f)) → first-record f n ≤ 1024
+  records-bound : (n : ℕ) → Accepted ≡ answer-of (all-rows n (entry-rows f)) → first-record f n ≤ 1024
   records-bound zero e = omega (arith, first-zero (sizes-of f))
-  records-bound (suc n) e = body-bounds n (each-passed (body-rows f) (suc n) n e (omega arith)) .2
+  records-bound (suc n) e = body-bounds n (each-passed (entry-rows f) (suc n) n e (omega arith)) .2
 
-  contents-parts : Accepted ≡ first (contents-rows f) → (Accepted ≡ first (each (array-count f) (array-rows f))) × (Accepted ≡ first (each (body-count f) (body-rows f)))
+  contents-parts : Accepted ≡ answer-of (contents-rows f) → (Accepted ≡ answer-of (all-rows (array-count f) (array-rows f))) × (Accepted ≡ answer-of (all-rows (body-count f) (entry-rows f)))
   unfolding contents-rows
-  contents-parts e = passed (each (array-count f) (array-rows f)) _ (skipped _ _ _ _ e .1)
+  contents-parts e = passed (all-rows (array-count f) (array-rows f)) _ (skipped _ _ _ _ e .1)
 
-  tail-bound : Accepted ≡ first (tail-rows f) → length f ≡ bodies-at f + 8 * record-count f + 2
+  tail-bound : Accepted ≡ answer-of (tail-rows f) → length f ≡ bodies-at f + 8 * record-count f + 2
   unfolding tail-rows
   tail-bound e = eqb-true _ _ (not-false _ (skipped _ _ _ _ e .0))
 
-  pub bounds-of : Accepted ≡ first (front-rows f) → Bounds f
+  pub bounds-of : Accepted ≡ answer-of (front-rows f) → Bounds f
   unfolding front-rows
   bounds-of e =
       let p = passed (header-rows f) _ e in
@@ -98,8 +98,8 @@ module _ (f : List ℕ) where
         header = h;
         lengths = λ a l. array-bounds a (each-passed (array-rows f) (array-count f) a (k .0) l) .0;
         cells-below = rw (all-cells f) (cells-bound (array-count f) (k .0));
-        declared = λ b l. body-bounds b (each-passed (body-rows f) (body-count f) b (k .1) l) .0;
-        undeclared = eqb-true _ _ (not-false _ (body-bounds 0 (each-passed (body-rows f) (body-count f) 0 (k .1) (omega (arith, h .bodies))) .1));
+        declared = λ b l. body-bounds b (each-passed (entry-rows f) (body-count f) b (k .1) l) .0;
+        undeclared = eqb-true _ _ (not-false _ (body-bounds 0 (each-passed (entry-rows f) (body-count f) 0 (k .1) (omega (arith, h .bodies))) .1));
         records = records-bound (body-count f) (k .1);
         long = tail-bound (q .1);
       }

@@ -13,7 +13,7 @@ use Rattle.reading.specs.Bytes.{array-count, body-count, layout-of, records-in,
 use Rattle.reading.specs.Inner.Places.{Inside}
 use Rattle.reading.proofs.Tables.{getD-table, first-rises, next-record}
 use Rattle.contents.specs.declared.Opened.{Opened}
-use Rattle.contents.specs.Found.{found}
+use Rattle.contents.specs.Inner.Findings.{found}
 use Rattle.contents.proofs.Bounds.{Bounds}
 
 -- where body b stands, by what was found

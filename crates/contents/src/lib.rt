@@ -4,10 +4,11 @@ ghost use mathlib.Core.Bool.{true, cond};
 ghost use Prim.Native.Nat.{_+_, _≤_, _<_};
 ghost use lib.ListN.{length};
 ghost use Rattle.model.specs.declared.Verdict.the-variants.{Accepted, Refused};
-ghost use Rattle.model.specs.Rows.{first, each};
+ghost use Rattle.model.specs.Rows.{answer-of, all-rows};
 ghost use Rattle.reading.specs.Bytes.{array-count, body-count, records-in, declarations-in, first-record, record-count, bodies-at};
-ghost use Rattle.contents.specs.Contents.{array-rows, body-rows, front-rows};
-ghost use Rattle.contents.specs.Found.{nothing-found, found, found-by};
+ghost use Rattle.contents.specs.Contents.{array-rows, entry-rows, front-rows};
+ghost use Rattle.contents.specs.Found.{found-by};
+ghost use Rattle.contents.specs.Inner.Findings.{found, nothing-found};
 use frame::header;
 use frame::tail;
 use model::Verdict;
@@ -70,7 +71,7 @@ fn entries_verdict(number: u8, at: usize, count: usize) -> Verdict
 // Number 4, where number 3 does not hold.
 pub fn array_entries(plan: &[u8]) -> Arrays
     requires { ⌜ (array-count (now plan) ≤ 32) × (bodies-at (now plan) ≤ length (now plan)) ⌝ }
-    ensures verdict { λ r. ⌜ r .verdict ≡ first (each (array-count (now (plan .entry))) (array-rows (now (plan .entry)))) ⌝ }
+    ensures verdict { λ r. ⌜ r .verdict ≡ answer-of (all-rows (array-count (now (plan .entry))) (array-rows (now (plan .entry)))) ⌝ }
     ensures cells { λ r. ⌜ (r .verdict ≡ Verdict.Accepted → r .cells ≡ found (now (plan .entry)) .cells) ⌝ }
     ensures starts { λ r. ⌜ (r .verdict ≡ Verdict.Accepted → r .starts ≡ found (now (plan .entry)) .«array_starts») ⌝ }
 {
@@ -99,7 +100,7 @@ fn body_entry(plan: &[u8], b: usize, records: u16) -> Entry
     requires { ⌜ (b < body-count (now plan)) × (body-count (now plan) ≤ 32) × (bodies-at (now plan) ≤ length (now plan)) × (records ≡ first-record (now plan) b) × (records ≤ 1024) ⌝ }
     ensures records { λ e. ⌜ e .records ≡ records-in (now (plan .entry)) b ⌝ }
     ensures declarations { λ e. ⌜ e .declarations ≡ declarations-in (now (plan .entry)) b ⌝ }
-    ensures rows { λ e. ⌜ cond (e .fits) Accepted (Refused 5 b) ≡ first (body-rows (now (plan .entry)) b) ⌝ }
+    ensures rows { λ e. ⌜ cond (e .fits) Accepted (Refused 5 b) ≡ answer-of (entry-rows (now (plan .entry)) b) ⌝ }
     ensures low { λ e. ⌜ (e .fits ≡ true → records + e .records ≤ 1024) ⌝ }
 {
     let at = entry_at(plan, b);
@@ -120,7 +121,7 @@ fn body_entry(plan: &[u8], b: usize, records: u16) -> Entry
 // Number 5, where number 3 does not hold.
 pub fn body_entries(plan: &[u8]) -> Bodies
     requires { ⌜ (body-count (now plan) ≤ 32) × (bodies-at (now plan) ≤ length (now plan)) ⌝ }
-    ensures verdict { λ r. ⌜ r .verdict ≡ first (each (body-count (now (plan .entry))) (body-rows (now (plan .entry)))) ⌝ }
+    ensures verdict { λ r. ⌜ r .verdict ≡ answer-of (all-rows (body-count (now (plan .entry))) (entry-rows (now (plan .entry)))) ⌝ }
     ensures records { λ r. ⌜ (r .verdict ≡ Verdict.Accepted → (r .records ≡ record-count (now (plan .entry))) × (r .records ≤ 1024)) ⌝ }
     ensures starts { λ r. ⌜ (r .verdict ≡ Verdict.Accepted → r .starts ≡ found (now (plan .entry)) .«body_starts») ⌝ }
     ensures declarations { λ r. ⌜ (r .verdict ≡ Verdict.Accepted → r .declarations ≡ found (now (plan .entry)) .declarations) ⌝ }
@@ -168,7 +169,7 @@ pub fn nothing_found(v: Verdict) -> Opened
 
 // Numbers 1 to 7, and what is found in a file in which none of them holds.
 pub fn outline(plan: &[u8]) -> Opened
-    ensures { λ r. ⌜ r ≡ found-by (now (plan .entry)) (first (front-rows (now (plan .entry)))) ⌝ }
+    ensures { λ r. ⌜ r ≡ found-by (now (plan .entry)) (answer-of (front-rows (now (plan .entry)))) ⌝ }
 {
     let h = header(plan);
     let Verdict::Accepted = h else {

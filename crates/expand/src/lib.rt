@@ -3,7 +3,7 @@ ghost use mathlib.Core.Path.{_≡_};
 ghost use Prim.Native.Nat.{_≤_};
 ghost use lib.ListN.{length};
 ghost use Rattle.model.specs.declared.Verdict.the-variants.{Accepted};
-ghost use Rattle.contents.specs.Found.{found};
+ghost use Rattle.contents.specs.Inner.Findings.{found};
 ghost use Rattle.format.specs.Opening.{opened};
 ghost use Rattle.judge.specs.Judged.{judged};
 ghost use Rattle.model.specs.Blocks.{size};

@@ -1,11 +1,15 @@
 // The functions for C and Rust: include/cuplihang.h declares them.
 ghost use mathlib.Core.Path.{_≡_};
-ghost use Rattle.exports.specs.Exported.{packed-opening, packed-body-view, PackedCheck, packed-judge, packed-expand, packed-expansion-length, PackedRun, packed-memory-view, packed-sheet};
+ghost use Rattle.exports.specs.Exported.{packed-for, PackedCheck, PackedRun};
 ghost use Rattle.check_bytes.specs.Packed.{packed-back-sums, packed-joined-sums};
-ghost use Rattle.packing.specs.Packed.{tally-of};
-ghost use Rattle.expand.specs.Expanded.{expanded};
+ghost use Rattle.packing.specs.Packed.{packed-answer, packed-part, packed-length, packed-view, tally-of};
+ghost use Rattle.format.specs.Opening.{opening, opened};
+ghost use Rattle.format.specs.Views.{body-part};
+ghost use Rattle.judge.specs.Judged.{judged};
+ghost use Rattle.view.specs.Viewing.{memory-side};
+ghost use Rattle.expand.specs.Expanded.{expand-answer, expanded, length-of-expansion};
 ghost use Rattle.run.specs.Running.{lent};
-ghost use Rattle.sheet.specs.Sheets.{sheet-figures};
+ghost use Rattle.sheet.specs.Sheets.{sheet-answer, sheet-figures};
 use model::Tally;
 use packing::pack_answer;
 use packing::pack_length;
@@ -17,7 +21,7 @@ use sheet::FIGURES;
 // Opens a plan.
 #[no_mangle]
 pub extern "C" fn plan_open(plan: &[u8]) -> u64
-    ensures { λ r. ⌜ r ≡ packed-opening (now (plan .entry)) ⌝ }
+    ensures { λ r. ⌜ r ≡ packed-for (now (plan .entry)) 0 (opening (now (plan .entry))) ⌝ }
 {
     let o = format::open(plan);
     let v = o.verdict;
@@ -27,7 +31,7 @@ pub extern "C" fn plan_open(plan: &[u8]) -> u64
 // Where the records of a body stand in the plan.
 #[no_mangle]
 pub extern "C" fn plan_body_view(plan: &[u8], body: u64) -> u64
-    ensures { λ r. ⌜ r ≡ packed-body-view (now (plan .entry)) body ⌝ }
+    ensures { λ r. ⌜ r ≡ packed-part (body-part (now (plan .entry)) body) ⌝ }
 {
     pack_part(format::body_part(plan, body))
 }
@@ -46,7 +50,7 @@ pub extern "C" fn plan_check(plan: &[u8]) -> u64
 // Judges a plan.
 #[no_mangle]
 pub extern "C" fn plan_judge(plan: &[u8]) -> u64
-    ensures { λ r. ⌜ r ≡ packed-judge (now (plan .entry)) ⌝ }
+    ensures { λ r. ⌜ r ≡ packed-for (now (plan .entry)) 0 (judged (now (plan .entry))) ⌝ }
 {
     let o = format::open(plan);
     let kind = o.kind;
@@ -57,7 +61,7 @@ pub extern "C" fn plan_judge(plan: &[u8]) -> u64
 // Expands a plan into the output.
 #[no_mangle]
 pub extern "C" fn plan_expand(plan: &[u8], out: &mut [u8]) -> u64
-    ensures answer { λ r. ⌜ r ≡ packed-expand (now (plan .entry)) (now (out .entry)) ⌝ }
+    ensures answer { λ r. ⌜ r ≡ packed-for (now (plan .entry)) 0 (expand-answer (now (plan .entry)) (now (out .entry))) ⌝ }
     ensures output { λ _. ⌜ now (out .exit) ≡ expanded (now (plan .entry)) (now (out .entry)) ⌝ }
 {
     let o = format::open(plan);
@@ -70,7 +74,7 @@ pub extern "C" fn plan_expand(plan: &[u8], out: &mut [u8]) -> u64
 // How long an output the expansion needs.
 #[no_mangle]
 pub extern "C" fn plan_expansion_length(plan: &[u8]) -> u64
-    ensures { λ r. ⌜ r ≡ packed-expansion-length (now (plan .entry)) ⌝ }
+    ensures { λ r. ⌜ r ≡ packed-length (opened (now (plan .entry)) .kind) (length-of-expansion (now (plan .entry))) ⌝ }
 {
     let o = format::open(plan);
     let length = expand::expansion_length(plan);
@@ -115,7 +119,7 @@ pub extern "C" fn plan_memory_view(
     first: u64,
     end: u64,
 ) -> u64
-    ensures { λ r. ⌜ r ≡ packed-memory-view (now (host .entry)) (now (card .entry)) (now (latest .entry)) first end ⌝ }
+    ensures { λ r. ⌜ r ≡ packed-view (memory-side (now (host .entry)) (now (card .entry)) (now (latest .entry)) first end) ⌝ }
 {
     pack_view(view::memory_side(host, card, latest, first, end))
 }
@@ -139,7 +143,7 @@ pub extern "C" fn plan_joined_sums(front: &[u8], back_sums: u64) -> u64
 // How many of the sequences of length n over one cell stop at each place, and how many pass.
 #[no_mangle]
 pub extern "C" fn plan_sheet(n: u64, figures: &mut [u64; FIGURES]) -> u64
-    ensures answer { λ r. ⌜ r ≡ packed-sheet n ⌝ }
+    ensures answer { λ r. ⌜ r ≡ packed-answer 0 0 (sheet-answer n) ⌝ }
     ensures output { λ _. ⌜ now (figures .exit) ≡ sheet-figures n (now (figures .entry)) ⌝ }
 {
     pack_answer(0, sheet::sheet(n, figures), 0)

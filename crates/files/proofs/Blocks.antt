@@ -7,9 +7,10 @@ use Rattle.model.specs.Sides.{Side}
 use Rattle.model.specs.Records.{Action}
 use Rattle.model.specs.Blocks.{Block, size, numbered, _then_}
 use Rattle.model.specs.Judging.{Mode, R, W, RW, Declaration}
-use Rattle.model.specs.Expanding.{given, declared}
+use Rattle.model.specs.Expanding.{given}
+use Rattle.model.specs.Inner.Declared.{declaration, declared}
 use Rattle.reading.specs.declared.Fields.{Fields}
-use Rattle.files.specs.Files.{block-fields}
+use Rattle.files.specs.Inner.Short.{block-fields}
 use Rattle.files.proofs.Files.Records.{fields-count}
 
 -- blocks of the same records have the same size
@@ -22,7 +23,7 @@ then-fields (Block.act r x a) b = rw (then-fields a b)
 then-fields (Block.branch r x y a) b = rw (then-fields a b, append-assoc, append-assoc)
 then-fields (Block.loop r x a) b = rw (then-fields a b, append-assoc)
 
-given-fields : (m : Mode) (s : Side) (a : ℕ) (b : Block Action) → block-fields (given m s a b) ≡ block-fields (given m s a Block.done) ++ block-fields b
+given-fields : (m : Mode) (s : Side) (a : ℕ) (b : Block Action) → block-fields (given (declaration m s a) b) ≡ block-fields (given (declaration m s a) Block.done) ++ block-fields b
 given-fields R s a b = refl
 given-fields W s a b = refl
 given-fields RW s a b = refl
@@ -38,8 +39,8 @@ declared-append [] es b = refl
 declared-append (d ∷ ds) es b = rw (declared-append ds es b)
 
 -- one declaration more
-pub declared-next : (ds : List Declaration) (d : Declaration) → block-fields (declared (ds ++ (d ∷ [])) Block.done) ≡ block-fields (declared ds Block.done) ++ block-fields (given (d .mode) (d .side) (d .array) Block.done)
-declared-next ds d = ap block-fields (declared-append ds (d ∷ []) Block.done) ∙ declared-fields ds (given (d .mode) (d .side) (d .array) Block.done)
+pub declared-next : (ds : List Declaration) (d : Declaration) → block-fields (declared (ds ++ (d ∷ [])) Block.done) ≡ block-fields (declared ds Block.done) ++ block-fields (given d Block.done)
+declared-next ds d = ap block-fields (declared-append ds (d ∷ []) Block.done) ∙ declared-fields ds (given d Block.done)
 
 pub numbered-size : (r : ℕ) (b : Block Action) → size (numbered r b) ≡ size b
 numbered-size r Block.done = refl

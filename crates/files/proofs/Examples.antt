@@ -7,13 +7,13 @@ use Rattle.model.specs.declared.Verdict.the-variants.{Accepted}
 use Rattle.model.specs.Sides.{card}
 use Rattle.model.specs.Records.{read}
 use Rattle.model.specs.Blocks.{Block, Plan}
-use Rattle.model.specs.Rows.{first, each}
+use Rattle.model.specs.Rows.{answer-of, all-rows}
 use Rattle.reading.specs.Bytes.{u16-at, table, length-at, entry-at, sizes-of, fields-at, first-arm, second-arm, lengths-of}
 use Rattle.sums.specs.Sums.{plain-sum, weighted-sum, check-bytes}
 use Rattle.frame.specs.Frame.{header-fits, header-rows, checks-fit, tail-rows}
-use Rattle.contents.specs.Contents.{array-rows, body-rows, contents-rows, front-rows}
+use Rattle.contents.specs.Contents.{array-rows, entry-rows, contents-rows, front-rows}
 use Rattle.rules.specs.Rules.{fields-fit, allowed, deepest, record-rows}
-use Rattle.records.specs.Records.{block-rows, records-rows}
+use Rattle.records.specs.Records.{block-rows, body-rows}
 use Rattle.format.specs.Opening.{open-rows, opening}
 use Rattle.format.specs.Plans.{action-of, block-of, plan-of}
 use Rattle.files.specs.Files.{file, plain-file}
@@ -26,7 +26,7 @@ plan : Plan
 plan = record { layout = record { lengths = 1 ∷ [] }; body = Block.act 0 (record { verb = read; side = card; name = 0; p = 0; q = 1 }) Block.done }
 
 opens : opening bytes ≡ Accepted
-unfolding bytes first each u16-at length-at table lengths-of entry-at sizes-of fields-at sum-before plain-sum weighted-sum header-fits header-rows array-rows body-rows contents-rows checks-fit tail-rows fields-fit allowed first-arm second-arm deepest record-rows block-rows records-rows front-rows open-rows opening
+unfolding bytes answer-of all-rows u16-at length-at table lengths-of entry-at sizes-of fields-at sum-before plain-sum weighted-sum header-fits header-rows array-rows entry-rows contents-rows checks-fit tail-rows fields-fit allowed first-arm second-arm deepest record-rows block-rows body-rows front-rows open-rows opening
 opens = refl
 
 is-plan : plan-of bytes ≡ plan

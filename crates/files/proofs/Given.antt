@@ -12,10 +12,11 @@ use Rattle.model.specs.Sides.{side-number}
 use Rattle.model.specs.Blocks.{Block, size}
 use Rattle.model.specs.Judging.{R, W, RW}
 use Rattle.model.specs.Expanding.{given}
+use Rattle.model.specs.Inner.Declared.{declaration}
 use Rattle.reading.specs.declared.Fields.{Fields}
 use Rattle.reading.specs.Bytes.{table, fields-at}
 use Rattle.format.specs.Plans.{side-of, declaration-of}
-use Rattle.files.specs.Files.{block-fields}
+use Rattle.files.specs.Inner.Short.{block-fields}
 use Rattle.files.specs.Inner.Given.{given-by, declared-from}
 use Rattle.files.proofs.Files.Records.{fields-count}
 use Rattle.files.proofs.Blocks.{same-size, declared-next}
@@ -32,7 +33,7 @@ module _ (x : Fields) where
   unfolding given-by declaration-of
   given-size = go (eqb (x .kind) 16) (eqb (x .kind) 17)
     where
-      go : (r w : Bool) → size (given (cond r R (cond w W RW)) (side-of (x .side)) (x .array) Block.done) ≡ cond (r || w) 1 2
+      go : (r w : Bool) → size (given (declaration (cond r R (cond w W RW)) (side-of (x .side)) (x .array)) Block.done) ≡ cond (r || w) 1 2
       go true w = refl
       go false true = refl
       go false false = refl

@@ -7,7 +7,7 @@ use native.Mathlib.Omega.{arith}
 use lib.ListN.{length, length-map}
 use lib.Dec.{ltb, leb, eqb}
 use borrow.Author.Tests.{ltb-true, leb-true, eqb-true}
-use Rattle.model.specs.Lists.{All, sum}
+use Rattle.model.specs.Lists.{All, sum, chain}
 use Rattle.model.specs.Sides.{Side, host, card, side-number, span-of, Layout, cell-count}
 use Rattle.model.specs.Records.{Verb, read, write, copy, need, mark, kind, whole, Action}
 use Rattle.model.specs.Blocks.{Block, size, Plan}
@@ -17,8 +17,9 @@ use Rattle.model.proofs.Numbering.{array-ends}
 use Rattle.reading.specs.declared.Fields.{Fields}
 use Rattle.sums.specs.Sums.{check-bytes}
 use Rattle.reading.specs.Bytes.{between}
-use Rattle.files.specs.Files.{u16-bytes, record-bytes, fields, action-fields, call-fields, fields-of, block-fields, mode-kind, declaration-fields, Body, entry-bytes, joined, front, file, plain-file, pass-body, declared-file}
-use Rattle.files.specs.Bounds.{all, arrays-fit, cells-fit, action-fits, nested-within, block-fits, plain-fits, pass-fits, passes-size, declared-fits}
+use Rattle.files.specs.Files.{u16-bytes, record-bytes, fields, action-fields, fields-of, Body, entry-bytes, front, file, plain-file}
+use Rattle.files.specs.Inner.Short.{block-fields, block-fits, passes-size}
+use Rattle.files.specs.Bounds.{all-pass, arrays-fit, cells-fit, action-fits, nested-within, plain-fits, pass-fits, declared-fits, call-fields, mode-kind, declaration-fields, pass-body, declared-file}
 use Rattle.files.specs.Claims.{Bytes}
 use Rattle.files.proofs.Files.Places.{body-size}
 use Rattle.files.proofs.Files.Accepting.{within-bounds}
@@ -33,9 +34,9 @@ module _ {A : Type 0} (P : A → Type 0) where
 bytes-append : (l m : List ℕ) → Bytes l → Bytes m → Bytes (l ++ m)
 bytes-append = all-append (λ x. x < 256)
 
-joined-bytes : {A : Type 0} (P : A → Type 0) (g : A → List ℕ) → ((x : A) → P x → Bytes (g x)) → (l : List A) → All P l → Bytes (joined g l)
+joined-bytes : {A : Type 0} (P : A → Type 0) (g : A → List ℕ) → ((x : A) → P x → Bytes (g x)) → (l : List A) → All P l → Bytes (chain g l)
 joined-bytes P g k [] h = tt
-joined-bytes P g k (x ∷ l) h = bytes-append (g x) (joined g l) (k x (h .0)) (joined-bytes P g k l (h .1))
+joined-bytes P g k (x ∷ l) h = bytes-append (g x) (chain g l) (k x (h .0)) (joined-bytes P g k l (h .1))
 
 u16-fits : (n : ℕ) → n < 65536 → Bytes (u16-bytes n)
 u16-fits n h = (omega arith, (omega arith, tt))
@@ -61,7 +62,7 @@ record Told (b : Body) : Type 0 where
 entry-fits : (b : Body) → Told b → Bytes (entry-bytes b)
 entry-fits b h = bytes-append (u16-bytes (body-size b)) (b .declarations ∷ 0 ∷ []) (u16-fits (body-size b) (h .few-records)) (h .few-declarations, (omega arith, tt))
 
-body-fits : (b : Body) → Told b → Bytes (joined record-bytes (b .records))
+body-fits : (b : Body) → Told b → Bytes (chain record-bytes (b .records))
 body-fits b h = joined-bytes Small record-bytes record-fits (b .records) (h .small)
 
 checks-small : (s : List ℕ) → Bytes (check-bytes s)
@@ -73,11 +74,11 @@ unfolding file
 file-bytes kind layout bodies k n m lengths told =
     let lengths-fit = joined-bytes (λ x. x < 65536) u16-bytes u16-fits (layout .lengths) lengths in
     let entries-fit = joined-bytes Told entry-bytes entry-fits bodies told in
-    let contents = bytes-append (joined u16-bytes (layout .lengths)) (joined entry-bytes bodies) lengths-fit entries-fit in
-    let bodies-fit = joined-bytes Told (λ b. joined record-bytes (b .records)) body-fits bodies told in
-    let summed = front kind layout bodies ++ joined (λ (b : Body). joined record-bytes (b .records)) bodies in
+    let contents = bytes-append (chain u16-bytes (layout .lengths)) (chain entry-bytes bodies) lengths-fit entries-fit in
+    let bodies-fit = joined-bytes Told (λ b. chain record-bytes (b .records)) body-fits bodies told in
+    let summed = front kind layout bodies ++ chain (λ (b : Body). chain record-bytes (b .records)) bodies in
     bytes-append summed (check-bytes summed)
-    (bytes-append (front kind layout bodies) (joined (λ (b : Body). joined record-bytes (b .records)) bodies) (k, (n, (m, (omega arith, contents)))) bodies-fit)
+    (bytes-append (front kind layout bodies) (chain (λ (b : Body). chain record-bytes (b .records)) bodies) (k, (n, (m, (omega arith, contents)))) bodies-fit)
     (checks-small summed)
 
 side-small : (s : Side) → side-number s < 256
@@ -150,18 +151,18 @@ module _ (layout : Layout) (few : length (layout .lengths) ≤ 32) (total : cell
   block-small : (x : Block Action) (levels : ℕ) → block-fits layout levels x ≡ true → size x ≤ 1024 → All Small (block-fields x)
   block-small = small-of action-fields (action-fits layout) action-small
 
-  declarations-small : (ds : List Declaration) → all (λ (d : Declaration). ltb (d .array) (length (layout .lengths))) ds ≡ true → All Small (map declaration-fields ds)
+  declarations-small : (ds : List Declaration) → all-pass (λ (d : Declaration). ltb (d .array) (length (layout .lengths))) ds ≡ true → All Small (map declaration-fields ds)
   declarations-small [] e = tt
   declarations-small (d ∷ ds) e =
-      let fit = and-out (ltb (d .array) (length (layout .lengths))) (all (λ (c : Declaration). ltb (c .array) (length (layout .lengths))) ds) e in
+      let fit = and-out (ltb (d .array) (length (layout .lengths))) (all-pass (λ (c : Declaration). ltb (c .array) (length (layout .lengths))) ds) e in
       (array-small (mode-kind (d .mode)) (d .side) (d .array) 0 0 (mode-small (d .mode)) (fit .0) (omega arith) (omega arith), declarations-small ds (fit .1))
 
-  passes-told : (ps : List Pass) → all (pass-fits layout) ps ≡ true → passes-size ps ≤ 1024 → All Told (map pass-body ps)
+  passes-told : (ps : List Pass) → all-pass (pass-fits layout) ps ≡ true → passes-size ps ≤ 1024 → All Told (map pass-body ps)
   passes-told [] e h = tt
   passes-told (p ∷ ps) e h =
-      let (one, others) = and-out (pass-fits layout p) (all (pass-fits layout) ps) e in
+      let (one, others) = and-out (pass-fits layout p) (all-pass (pass-fits layout) ps) e in
       let (few-declarations, fit) = and-out (leb (length (p .declarations)) 255) _ one in
-      let (of-arrays, block-fit) = and-out (all (λ (d : Declaration). ltb (d .array) (length (layout .lengths))) (p .declarations)) _ fit in
+      let (of-arrays, block-fit) = and-out (all-pass (λ (d : Declaration). ltb (d .array) (length (layout .lengths))) (p .declarations)) _ fit in
       let told : Told (pass-body p) = record {
         few-declarations = omega (arith, leb-true (length (p .declarations)) 255 few-declarations);
         few-records = omega (arith, pass-count p);
@@ -176,8 +177,8 @@ body0-small last l = small-of call-fields (between 1 last) (λ b e. let h = with
 
 arrays-small : (layout : Layout) → arrays-fit layout ≡ true → (length (layout .lengths) ≤ 32) × (cell-count layout ≤ 4096)
 arrays-small layout e =
-    let h = and-out (between 1 32 (length (layout .lengths))) (all (between 1 4096) (layout .lengths) && leb (cell-count layout) 4096) e in
-    (within-bounds 1 32 (length (layout .lengths)) (h .0) .1, leb-true _ _ (and-out (all (between 1 4096) (layout .lengths)) (leb (cell-count layout) 4096) (h .1) .1))
+    let h = and-out (between 1 32 (length (layout .lengths))) (all-pass (between 1 4096) (layout .lengths) && leb (cell-count layout) 4096) e in
+    (within-bounds 1 32 (length (layout .lengths)) (h .0) .1, leb-true _ _ (and-out (all-pass (between 1 4096) (layout .lengths)) (leb (cell-count layout) 4096) (h .1) .1))
 
 pub plain-bytes : (plan : Plan) → plain-fits plan ≡ true → Bytes (plain-file plan)
 plain-bytes plan fits =
@@ -199,7 +200,7 @@ declared-bytes plan fits =
     let (arrays-in, h) = and-out (arrays-fit (plan .layout)) _ fits in
     let (few-passes, h′) = and-out (leb (length (plan .passes)) 31) _ h in
     let (body0-in, h″) = and-out (nested-within (between 1 (length (plan .passes))) 8 (plan .body0)) _ h′ in
-    let (passes-in, few-records) = and-out (all (pass-fits (plan .layout)) (plan .passes)) _ h″ in
+    let (passes-in, few-records) = and-out (all-pass (pass-fits (plan .layout)) (plan .passes)) _ h″ in
     let (few, total) = arrays-small (plan .layout) arrays-in in
     let last : length (plan .passes) ≤ 31 = leb-true _ _ few-passes in
     let sized : size (plan .body0) + passes-size (plan .passes) ≤ 1024 = leb-true _ _ few-records in

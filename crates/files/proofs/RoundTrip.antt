@@ -14,11 +14,12 @@ use Rattle.model.specs.Judging.{DeclaredPlan}
 use Rattle.model.proofs.Booleans.{and-out, and-in}
 use Rattle.reading.specs.Bytes.{kind-of, body-count, table, records-in, first-record, record-count, fields-at, between}
 use Rattle.rules.specs.Rules.{allowed, deepest}
-use Rattle.records.specs.Records.{records-rows}
+use Rattle.records.specs.Records.{body-rows}
 use Rattle.format.specs.Opening.{opening}
 use Rattle.format.specs.Plans.{pass-at, plan-of, declared-plan-of}
-use Rattle.files.specs.Files.{call-fields, fields-of, block-fields, Body, plain-file, pass-body, declared-file}
-use Rattle.files.specs.Bounds.{all, arrays-fit, nested-within, block-fits, plain-fits, pass-fits, passes-size, declared-fits, numbered-passes, numbered-plan, numbered-declared}
+use Rattle.files.specs.Files.{fields-of, Body, plain-file}
+use Rattle.files.specs.Inner.Short.{block-fields, block-fits, passes-size}
+use Rattle.files.specs.Bounds.{all-pass, arrays-fit, nested-within, plain-fits, pass-fits, declared-fits, numbered-passes, numbered-plan, numbered-declared, call-fields, pass-body, declared-file}
 use Rattle.files.proofs.Files.Holding.{Along, none, more, Holds, head-of, tail-of, down, table-is}
 use Rattle.files.proofs.Files.Places.{Placed, Laid, laid}
 use Rattle.files.proofs.Files.Accepting.{Passes, opens}
@@ -54,8 +55,8 @@ module _ (plan : Plan) where
   plain-held : Holds (fields-at plain) 0 (block-fields (plan .body))
   plain-held = rw (plain-laid .start-is) at (plain-placed .held)
 
-  plain-records : block-fits (plan .layout) 16 (plan .body) ≡ true → Passes (records-rows plain 0)
-  unfolding records-rows deepest allowed
+  plain-records : block-fits (plan .layout) 16 (plan .body) ≡ true → Passes (body-rows plain 0)
+  unfolding body-rows deepest allowed
   plain-records fits =
       let end : first-record plain 1 ≡ 0 + size (plan .body) = rw (plain-laid .start-is, fields-count (plan .body)) at (plain-placed .next) in
       let deep : deepest plain ≡ 15 = rw (plain-laid .kind-is) in
@@ -107,8 +108,8 @@ module _ (plan : DeclaredPlan) where
   counted-bodies : body-count declared ≡ suc (length (plan .passes))
   counted-bodies = rw (length-map (plan .passes) pass-body) at (declared-laid .body-count-is)
 
-  body0-records : nested-within (between 1 (length (plan .passes))) 8 (plan .body0) ≡ true → Passes (records-rows declared 0)
-  unfolding records-rows deepest allowed
+  body0-records : nested-within (between 1 (length (plan .passes))) 8 (plan .body0) ≡ true → Passes (body-rows declared 0)
+  unfolding body-rows deepest allowed
   body0-records fits =
       let deep : deepest declared ≡ 7 = rw (declared-laid .kind-is) in
       rw (passes-start, declared-laid .start-is)
@@ -127,7 +128,7 @@ module _ (plan : DeclaredPlan) where
       let (arrays-in, h) = and-out (arrays-fit (plan .layout)) _ fits in
       let (few-passes, h′) = and-out (leb (length (plan .passes)) 31) _ h in
       let (body0-in, h″) = and-out (nested-within (between 1 (length (plan .passes))) 8 (plan .body0)) _ h′ in
-      let (passes-in, few-records) = and-out (all (pass-fits (plan .layout)) (plan .passes)) _ h″ in
+      let (passes-in, few-records) = and-out (all-pass (pass-fits (plan .layout)) (plan .passes)) _ h″ in
       let few-bodies : length bodies ≤ 32 = omega (arith, leb-true (length (plan .passes)) 31 few-passes, length-map (plan .passes) pass-body) in
       let few : size (plan .body0) + passes-size (plan .passes) ≤ 1024 = leb-true _ _ few-records in
       let records-are : records-in declared 0 ≡ size (plan .body0) = placed0 .entry .records-are ∙ count-of call-fields (plan .body0) in

@@ -11,8 +11,8 @@ use Rattle.model.specs.Blocks.{Block}
 use Rattle.reading.specs.declared.Fields.{Fields}
 use Rattle.reading.specs.Bytes.{kind-of, body-count, records-in, declarations-in, sizes-of, first-record, record-count, fields-at, first-arm, second-arm}
 use Rattle.rules.specs.Rules.{allowed}
-use Rattle.format.specs.Plans.{action-of, call-of, block-of, pass-at, plan-of, declared-plan-of}
-use Rattle.format.specs.Inner.Walks.{Good, Walkable, block-between, body0-between}
+use Rattle.format.specs.Plans.{action-of, block-of, pass-at, plan-of, declared-plan-of}
+use Rattle.format.specs.Inner.Walks.{Good, Walkable, block-between, body0-between, call-of}
 use Rattle.reading.proofs.Ranges.{of-range, out-of-range}
 use Rattle.reading.proofs.Tables.{first-zero, next-record}
 use Rattle.format.proofs.Walking.{Facts, good-parts, steps}

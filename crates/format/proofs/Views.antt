@@ -9,13 +9,13 @@ use lib.ListN.{length, take, drop, getD}
 use borrow.Author.Tests.{le-leb, lt-leb}
 use Rattle.model.specs.Lists.{further}
 use Rattle.model.specs.declared.Verdict.{Verdict}
-use Rattle.model.specs.declared.Verdict.the-variants.{Accepted, Stopped, Refused}
+use Rattle.model.specs.declared.Verdict.the-variants.{Accepted, Refused}
 use Rattle.contents.specs.declared.Opened.{Opened}
 use Rattle.reading.specs.Bytes.{array-count, entry-at, body-count, records-in, sizes-of, first-record, record-count, bodies-at}
 use Rattle.format.specs.Opening.{open-rows, opening}
-use Rattle.contents.specs.Found.{found}
-use Rattle.format.specs.Views.{body-view-answer, body-at, viewed, body-view, part-by, body-part}
-use Rattle.model.proofs.Rows.{holds, skips, empty, stop, pass}
+use Rattle.contents.specs.Inner.Findings.{found}
+use Rattle.format.specs.Views.{body-view-answer, body-at, body-view, body-part}
+use Rattle.model.proofs.Rows.{unaccepted, holds, skips, empty, stop, pass}
 use Rattle.reading.proofs.Tables.{first-rises, next-record}
 use Rattle.format.proofs.Walking.{opened-facts, body-start}
 
@@ -72,31 +72,16 @@ module _ (f : List ℕ) (b : ℕ) where
   -- a refused part
   pub part-none : (v : Verdict) → (v ≡ Accepted → ⊥) → v ≡ body-view-answer f b → record { verdict = v; from = 0; size = 0 } ≡ body-part f b
   unfolding body-part
-  part-none v nay e = rw (← e) (go v nay)
-    where
-      go : (v : Verdict) → (v ≡ Accepted → ⊥) → record { verdict = v; from = 0; size = 0 } ≡ part-by f b v
-      go Accepted nay = absurd (nay refl)
-      go (Stopped r c) nay = refl
-      go (Refused n p) nay = refl
+  part-none v nay e = rw (← e, unaccepted v nay)
 
   -- the part is the view, within the file
   pub part-answer : body-part f b .verdict ≡ body-view-answer f b
   unfolding body-part
-  part-answer = go (body-view-answer f b)
-    where
-      go : (v : Verdict) → part-by f b v .verdict ≡ v
-      go Accepted = refl
-      go (Stopped r c) = refl
-      go (Refused n p) = refl
+  part-answer = refl
 
   pub part-view : take (body-part f b .size) (drop (body-part f b .from) f) ≡ body-view f b
-  unfolding body-part body-view
-  part-view = go (body-view-answer f b)
-    where
-      go : (v : Verdict) → take (part-by f b v .size) (drop (part-by f b v .from) f) ≡ viewed f b v
-      go Accepted = refl
-      go (Stopped r c) = refl
-      go (Refused n p) = refl
+  unfolding body-view
+  part-view = refl
 
   -- at acceptance it begins where the body does in the file, wherever that is in memory
   pub part-begins : (file : ℕ × ℕ) → body-view-answer f b ≡ Accepted → (file .0, body-part f b .from + file .1) ≡ further file (body-at f b)

@@ -8,18 +8,18 @@ use borrow.Author.Tests.{lt-ltb}
 use Rattle.model.specs.declared.Verdict.the-variants.{Accepted}
 use Rattle.reading.specs.declared.Fields.{Fields}
 use Rattle.contents.specs.declared.Opened.{Opened}
-use Rattle.model.specs.Rows.{first}
+use Rattle.model.specs.Rows.{answer-of}
 use Rattle.reading.specs.Bytes.{body-count, records-in, first-record, fields-at, first-arm, second-arm}
 use Rattle.rules.specs.Rules.{fields-fit, record-rows}
-use Rattle.records.specs.Records.{block-rows, records-rows}
+use Rattle.records.specs.Records.{block-rows, body-rows}
 use Rattle.format.specs.Opening.{opening, opened}
-use Rattle.contents.specs.Found.{found, found-by}
+use Rattle.contents.specs.Found.{found-by}
+use Rattle.contents.specs.Inner.Findings.{found}
 use Rattle.format.specs.Inner.Walks.{Good, Walkable}
 use Rattle.model.proofs.Rows.{passed, each-passed}
 use Rattle.reading.proofs.Tables.{next-record}
 use Rattle.rules.proofs.Rules.{Tests, tests-of}
 use Rattle.format.proofs.Opening.{open-parts}
-use Rattle.contents.proofs.Places.{answer}
 use Rattle.contents.proofs.Bounds.{Bounds, bounds-of}
 pub use Rattle.contents.proofs.Found.{array-start, body-start, declarations-at}
 
@@ -27,7 +27,7 @@ pub use Rattle.contents.proofs.Found.{array-start, body-start, declarations-at}
 module _ (f : List ℕ) (o : Opened) (e : o ≡ opened f) where
   pub verdict-is : o .verdict ≡ opening f
   unfolding opened
-  verdict-is = ap (λ x. x .verdict) e ∙ answer f (opening f)
+  verdict-is = ap (λ x. x .verdict) e
 
   pub found-is : o .verdict ≡ Accepted → o ≡ found f
   unfolding opened
@@ -39,14 +39,14 @@ pub record Facts (f : List ℕ) : Type 0 where
   pub good : (b : ℕ) → b < body-count f → Good f b 0 (first-record f b) (first-record f (suc b))
 
 module _ (f : List ℕ) where
-  body-good : (b : ℕ) → b < body-count f → Accepted ≡ first (records-rows f b) → Good f b 0 (first-record f b) (first-record f (suc b))
-  unfolding records-rows
+  body-good : (b : ℕ) → b < body-count f → Accepted ≡ answer-of (body-rows f b) → Good f b 0 (first-record f b) (first-record f (suc b))
+  unfolding body-rows
   body-good b l e = record { fuel = records-in f b; enough = omega (arith, next-record f b l); passes = e }
 
   pub opened-facts : Accepted ≡ opening f → Facts f
   opened-facts e =
       let p = open-parts f e in
-      record { bounds = bounds-of f (p .0); good = λ b l. body-good b l (each-passed (records-rows f) (body-count f) b (p .1) l) }
+      record { bounds = bounds-of f (p .0); good = λ b l. body-good b l (each-passed (body-rows f) (body-count f) b (p .1) l) }
 
 -- the first record of a good block: its tests, and what comes after it is good again
 pub record Parts (f : List ℕ) (b depth r end : ℕ) : Type 0 where
@@ -56,12 +56,12 @@ pub record Parts (f : List ℕ) (b depth r end : ℕ) : Type 0 where
   pub rest : Good f b depth (r + 1 + first-arm (fields-at f r) + second-arm (fields-at f r)) end
 
 module _ (f : List ℕ) (b depth r end : ℕ) (h : r < end) where
-  parts : (fuel : ℕ) → end ≤ r + fuel → Accepted ≡ first (block-rows fuel f b depth r end) → Parts f b depth r end
+  parts : (fuel : ℕ) → end ≤ r + fuel → Accepted ≡ answer-of (block-rows fuel f b depth r end) → Parts f b depth r end
   unfolding block-rows
   parts zero l e = absurd (omega arith)
   parts (suc n) l e =
       let second = r + 1 + first-arm (fields-at f r) in
-      let p = passed (record-rows f b depth end r) _ (rw (lt-ltb _ _ h) at e) in
+      let p = passed (record-rows f b depth r end) _ (rw (lt-ltb _ _ h) at e) in
       let q = passed (block-rows n f b (depth + 1) (r + 1) second) _ (p .1) in
       let s = passed (block-rows n f b (depth + 1) second (second + second-arm (fields-at f r))) _ (q .1) in
       let t = tests-of f b depth r end (p .0) in

@@ -2,20 +2,20 @@
 use Prim.Native.Nat.{ℕ}
 use mathlib.Core.List.{List, _++_}
 use Rattle.model.specs.declared.Verdict.{Verdict}
-use Rattle.model.specs.Rows.{Row, first, each}
+use Rattle.model.specs.Rows.{Row, answer-of, all-rows}
 use Rattle.reading.specs.Bytes.{body-count}
 use Rattle.contents.specs.declared.Opened.{Opened}
 use Rattle.contents.specs.Contents.{front-rows}
 use Rattle.contents.specs.Found.{found-by}
-use Rattle.records.specs.Records.{records-rows}
+use Rattle.records.specs.Records.{body-rows}
 
 -- "Places are tried in this order": header, contents and tail, then each record
 unfoldable pub open-rows : List ℕ → List Row
-open-rows f = front-rows f ++ each (body-count f) (records-rows f)
+open-rows f = front-rows f ++ all-rows (body-count f) (body-rows f)
 
 -- the opening's answer
 unfoldable pub opening : List ℕ → Verdict
-opening f = first (open-rows f)
+opening f = answer-of (open-rows f)
 
 -- the whole result of opening
 unfoldable pub opened : List ℕ → Opened

@@ -26,21 +26,18 @@ action-of x = record { verb = verb-of (x .kind); side = side-of (x .side); name 
 unfoldable pub declaration-of : Fields → Declaration
 declaration-of x = record { mode = cond (eqb (x .kind) 16) R (cond (eqb (x .kind) 17) W RW); side = side-of (x .side); array = x .array }
 
--- "8 call: P is a body"
-abbrev pub call-of : Fields → ℕ
-call-of x = x .p
-
--- the block of the records r up to `end`, where record r has the fields `g r`, and `leaf` says what a record is that is neither branch nor loop: an action or
--- a call (`fuel` is at least the number of records)
+-- the block of the records r up to `end`, where record r has the fields `g r`, and `leaf` says what a record is that is neither branch nor
+-- loop: an action or a call (`fuel` is at least the number of records)
 unfoldable pub block-of : {A : Type 0} → (Fields → A) → ℕ → (ℕ → Fields) → ℕ → ℕ → Block A
 block-of leaf zero g r end = Block.done
 block-of leaf (suc fuel) g r end =
     let second = r + 1 + first-arm (g r) in
     let next = second + second-arm (g r) in
+    let rest = block-of leaf fuel g next end in
     cond (ltb r end)
-    (cond (eqb (g r .kind) 6) (Block.branch r (block-of leaf fuel g (r + 1) second) (block-of leaf fuel g second next) (block-of leaf fuel g next end))
-    (cond (eqb (g r .kind) 7) (Block.loop r (block-of leaf fuel g (r + 1) second) (block-of leaf fuel g next end))
-    (Block.act r (leaf (g r)) (block-of leaf fuel g next end))))
+    (cond (eqb (g r .kind) 6) (Block.branch r (block-of leaf fuel g (r + 1) second) (block-of leaf fuel g second next) rest)
+    (cond (eqb (g r .kind) 7) (Block.loop r (block-of leaf fuel g (r + 1) second) rest)
+    (Block.act r (leaf (g r)) rest)))
     Block.done
 
 -- body b as a pass: "declarations first, as many as the contents say", then its other records
@@ -57,10 +54,10 @@ pass-at f b =
 unfoldable pub plan-of : List ℕ → Plan
 plan-of f = record { layout = layout-of f; body = block-of action-of (record-count f) (fields-at f) 0 (record-count f) }
 
--- the declared plan of a file of kind 1
+-- the declared plan of a file of kind 1; "8 call: P is a body"
 unfoldable pub declared-plan-of : List ℕ → DeclaredPlan
 declared-plan-of f = record {
   layout = layout-of f;
-  body0 = block-of call-of (records-in f 0) (fields-at f) 0 (records-in f 0);
+  body0 = block-of (λ (x : Fields). x .p) (records-in f 0) (fields-at f) 0 (records-in f 0);
   passes = table (λ b. pass-at f (suc b)) (body-count f - 1);
 }

@@ -6,19 +6,19 @@ use lib.ListN.{length, take}
 use lib.Dec.{ltb, eqb}
 use Rattle.model.specs.Rows.{Row, row}
 use Rattle.sums.specs.Sums.{first-check, second-check}
-use Rattle.reading.specs.Bytes.{byte-at, kind-of, array-count, body-count, record-count, bodies-at, between}
+use Rattle.reading.specs.Bytes.{byte-at, kind-of, is-declared, array-count, body-count, record-count, bodies-at, between}
 
 -- HEADER. "Byte 0: kind, 1 declared, 2 plain. Byte 1: arrays, 1 to 32. Byte 2: bodies, 1 to 32, for a plain plan 1. Byte 3: zero."
 unfoldable pub header-fits : List ℕ → Bool
 header-fits f =
-    between 1 2 (kind-of f) && between 1 32 (array-count f) && between 1 32 (body-count f) && (eqb (kind-of f) 1 || eqb (body-count f) 1) && eqb (byte-at f 3) 0
+    between 1 2 (kind-of f) && between 1 32 (array-count f) && between 1 32 (body-count f)
+    && (is-declared f || eqb (body-count f) 1) && eqb (byte-at f 3) 0
 
 -- "1 under 4 bytes; 2 a header byte against its rule"
 unfoldable pub header-rows : List ℕ → List Row
 header-rows f =
     row (ltb (length f) 4) 1 0
-    ∷ row (not (header-fits f)) 2 0
-    ∷ []
+    ∷ row (not (header-fits f)) 2 0 ∷ []
 
 -- TAIL. whether the last two bytes are the check bytes of those before them
 unfoldable pub checks-fit : List ℕ → Bool
@@ -30,5 +30,4 @@ checks-fit f =
 unfoldable pub tail-rows : List ℕ → List Row
 tail-rows f =
     row (not (eqb (length f) (bodies-at f + 8 * record-count f + 2))) 6 0
-    ∷ row (not (checks-fit f)) 7 0
-    ∷ []
+    ∷ row (not (checks-fit f)) 7 0 ∷ []

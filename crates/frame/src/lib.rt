@@ -2,7 +2,7 @@
 ghost use mathlib.Core.Path.{_≡_};
 ghost use mathlib.Core.List.{List};
 ghost use Prim.Native.Nat.{ℕ, _≤_};
-ghost use Rattle.model.specs.Rows.{first};
+ghost use Rattle.model.specs.Rows.{answer-of};
 ghost use Rattle.reading.specs.Bytes.{byte-at, kind-of, array-count, body-count, record-count, bodies-at};
 ghost use Rattle.frame.specs.Frame.{header-fits, header-rows, tail-rows};
 use check_bytes::check_sums;
@@ -26,7 +26,7 @@ fn header_fits(kind: u8, arrays: u8, bodies: u8, zero: u8) -> bool
 
 // Numbers 1 and 2.
 pub fn header(plan: &[u8]) -> Verdict
-    ensures { λ r. ⌜ r ≡ first (header-rows (now (plan .entry))) ⌝ }
+    ensures { λ r. ⌜ r ≡ answer-of (header-rows (now (plan .entry))) ⌝ }
 {
     if plan.len() < 4 {
         return Verdict::Refused(1, 0);
@@ -40,7 +40,7 @@ pub fn header(plan: &[u8]) -> Verdict
 // Numbers 6 and 7, of a file with so many records, whose bodies begin at `offset`.
 pub fn tail(plan: &[u8], offset: usize, records: usize) -> Verdict
     requires { ⌜ (offset ≡ bodies-at (now plan)) × (offset ≤ 2048) × (records ≡ record-count (now plan)) × (records ≤ 1024) ⌝ }
-    ensures { λ r. ⌜ r ≡ first (tail-rows (now (plan .entry))) ⌝ }
+    ensures { λ r. ⌜ r ≡ answer-of (tail-rows (now (plan .entry))) ⌝ }
 {
     if plan.len() != offset + 8 * records + 2 {
         return Verdict::Refused(6, 0);

@@ -10,7 +10,8 @@ use Rattle.model.specs.Blocks.{size}
 use Rattle.reading.specs.declared.Fields.{Fields}
 use Rattle.reading.specs.Bytes.{fields-at}
 use Rattle.format.specs.Plans.{declaration-of}
-use Rattle.files.specs.Files.{record-bytes, fields, block-fields}
+use Rattle.files.specs.Files.{record-bytes, fields}
+use Rattle.files.specs.Inner.Short.{block-fields}
 use Rattle.files.specs.Inner.Given.{given-by, declared-from}
 use Rattle.files.proofs.Files.Records.{fields-count}
 use Rattle.files.proofs.Blocks.{same-size}

@@ -7,13 +7,15 @@ use borrow.Rule.Slice.PartMut.{midOf, putMid}
 use Rattle.model.specs.Records.{Action}
 use Rattle.model.specs.Blocks.{Block, size}
 use Rattle.reading.specs.declared.Fields.{Fields}
-use Rattle.files.specs.Files.{record-bytes, block-fields, joined}
+use Rattle.files.specs.Files.{record-bytes}
+use Rattle.files.specs.Inner.Short.{block-fields}
+use Rattle.model.specs.Lists.{chain}
 use Rattle.files.proofs.Files.Holding.{joined-length}
 use Rattle.files.proofs.Files.Records.{fields-count}
 use Rattle.given.specs.Inner.Over.{over, bytes-of}
 use Rattle.given.proofs.Over.{over-none, over-lent}
 
-pub joined-append : {A : Type 0} (g : A → List ℕ) (l m : List A) → joined g (l ++ m) ≡ joined g l ++ joined g m
+pub joined-append : {A : Type 0} (g : A → List ℕ) (l m : List A) → chain g (l ++ m) ≡ chain g l ++ chain g m
 joined-append g [] m = refl
 joined-append g (x ∷ l) m = rw (joined-append g l m, append-assoc)
 

@@ -7,32 +7,31 @@ use Prim.Native.Nat.{ℕ, zero, suc, _+_, _*_, _≤_, _<_}
 use native.Mathlib.Decide.{decLt}
 use native.Mathlib.Omega.{arith}
 use lib.Dec.{ltb, eqb}
-use lib.ListN.{length, getD, take}
+use lib.ListN.{length, take}
 use lib.Seq.{take-all, length-take-le, getD-take}
 use borrow.Author.Tests.{le-ltb, ne-eqb, ltb-false}
 use Rattle.model.proofs.Booleans.{or-none}
-use Rattle.model.specs.declared.Verdict.{Verdict}
-use Rattle.model.specs.declared.Verdict.the-variants.{Accepted, Stopped, Refused}
-use Rattle.model.specs.Rows.{Row, row, first, each}
-use Rattle.reading.specs.Bytes.{byte-at, u16-at, kind-of, array-count, body-count, table, length-at, entry-at, records-in, declarations-in, last-of-entry, sizes-of, first-record, record-count, bodies-at, lengths-of}
+use Rattle.model.specs.declared.Verdict.the-variants.{Accepted, Refused}
+use Rattle.model.specs.Rows.{Row, row, answer-of, all-rows}
+use Rattle.reading.specs.Bytes.{byte-at, u16-at, array-count, body-count, table, length-at, entry-at, records-in, declarations-in, sizes-of, first-record, record-count, bodies-at, lengths-of}
 use Rattle.frame.specs.Frame.{header-fits, header-rows, tail-rows}
-use Rattle.contents.specs.Contents.{array-rows, body-rows, contents-rows, front-rows}
-use Rattle.records.specs.Records.{records-rows}
+use Rattle.contents.specs.Contents.{array-rows, entry-rows, contents-rows, front-rows}
+use Rattle.records.specs.Records.{body-rows}
 use Rattle.format.specs.Opening.{open-rows, opening, opened}
-use Rattle.contents.specs.Found.{nothing-found, found-by}
+use Rattle.contents.specs.Inner.Findings.{nothing-found}
 use Rattle.model.proofs.Rows.{refused, holds, stop, passed, skipped, each-passed}
 use Rattle.contents.proofs.Places.{nothing}
 use Rattle.contents.proofs.Bounds.{Header, header-bounds}
 use Rattle.input.specs.Longer.{Decided, Longer}
 
 -- the places in the table's order
-places : (f : List ℕ) → open-rows f ≡ header-rows f ++ (contents-rows f ++ (tail-rows f ++ each (body-count f) (records-rows f)))
+places : (f : List ℕ) → open-rows f ≡ header-rows f ++ (contents-rows f ++ (tail-rows f ++ all-rows (body-count f) (body-rows f)))
 unfolding open-rows front-rows
 places f = simp append-assoc
 
 -- two lists of rows that begin alike
-same-start : (a b c : List Row) → (Accepted ≡ first a → first b ≡ first c) → first (a ++ b) ≡ first (a ++ c)
-unfolding first
+same-start : (a b c : List Row) → (Accepted ≡ answer-of a → answer-of b ≡ answer-of c) → answer-of (a ++ b) ≡ answer-of (a ++ c)
+unfolding answer-of
 same-start [] b c h = h refl
 same-start (row true n p ∷ a) b c h = refl
 same-start (row false n p ∷ a) b c h = same-start a b c h
@@ -43,8 +42,8 @@ unfolding table
 same-table g h zero e = refl
 same-table g h (suc n) e = rw (same-table g h n (λ i l. e i (omega arith)), e n (omega arith))
 
-same-each : (g h : ℕ → List Row) (n : ℕ) → ((i : ℕ) → i < n → g i ≡ h i) → each n g ≡ each n h
-unfolding each
+same-each : (g h : ℕ → List Row) (n : ℕ) → ((i : ℕ) → i < n → g i ≡ h i) → all-rows n g ≡ all-rows n h
+unfolding all-rows
 same-each g h zero e = refl
 same-each g h (suc n) e = rw (same-each g h n (λ i l. e i (omega arith)), e n (omega arith))
 
@@ -54,21 +53,21 @@ module _ (f : List ℕ) (h : Header f) where
   unfolding entry-at
   short = omega (arith, h .arrays, h .bodies)
 
-  few : (n : ℕ) → 1 ≤ n → Accepted ≡ first (each n (body-rows f)) → first-record f n ≤ 1024
-  unfolding body-rows
+  few : (n : ℕ) → 1 ≤ n → Accepted ≡ answer-of (all-rows n (entry-rows f)) → first-record f n ≤ 1024
+  unfolding entry-rows
   few zero l e = absurd (omega arith)
   few (suc n) l e =
-      let others = not (eqb (last-of-entry f n) 0) || ltb (records-in f n) (declarations-in f n) || (eqb n 0 && not (eqb (declarations-in f n) 0)) in
-      ltb-false _ _ (or-none others _ (skipped _ _ _ _ (each-passed (body-rows f) (suc n) n e (omega arith)) .0) .1)
+      let others = not (eqb (byte-at f (entry-at f n + 3)) 0) || ltb (records-in f n) (declarations-in f n) || (eqb n 0 && not (eqb (declarations-in f n) 0)) in
+      ltb-false _ _ (or-none others _ (skipped _ _ _ _ (each-passed (entry-rows f) (suc n) n e (omega arith)) .0) .1)
 
-  module _ (long : 8390 < length f) (k : Accepted ≡ first (contents-rows f)) where
+  module _ (long : 8390 < length f) (k : Accepted ≡ answer-of (contents-rows f)) where
     other : length f ≡ bodies-at f + 8 * record-count f + 2 → ⊥
     unfolding contents-rows
     other e =
-        let p = passed (each (array-count f) (array-rows f)) _ (skipped _ _ _ _ k .1) in
+        let p = passed (all-rows (array-count f) (array-rows f)) _ (skipped _ _ _ _ k .1) in
         omega (arith, short, few (body-count f) (h .bodies .0) (p .1))
 
-    sixth : (rest : List Row) → Refused 6 0 ≡ first (tail-rows f ++ rest)
+    sixth : (rest : List Row) → Refused 6 0 ≡ answer-of (tail-rows f ++ rest)
     unfolding tail-rows
     sixth rest = holds _ _ _ _ (ap not (ne-eqb _ _ other))
 
@@ -110,8 +109,8 @@ module _ (f g : List ℕ) (lf : 8390 < length f) (lg : 8390 < length g) (near : 
     unfolding array-rows
     array-row a l = rw (lengths a l, arrays)
 
-    body-row : (b : ℕ) → b < body-count f → body-rows f b ≡ body-rows g b
-    unfolding body-rows
+    body-row : (b : ℕ) → b < body-count f → entry-rows f b ≡ entry-rows g b
+    unfolding entry-rows
     body-row b l =
         let m = low b l in
         rw (records b l, near (entry-at f b + 2) (omega arith), near (entry-at f b + 3) (omega arith), entry b, sizes)
@@ -127,11 +126,11 @@ module _ (f g : List ℕ) (lf : 8390 < length f) (lg : 8390 < length g) (near : 
   unfolding opening
   same = rw (places f, places g) (same-start (header-rows f) _ _ after ∙ rw headers)
     where
-      after : Accepted ≡ first (header-rows f) → first (contents-rows f ++ (tail-rows f ++ each (body-count f) (records-rows f))) ≡ first (contents-rows g ++ (tail-rows g ++ each (body-count g) (records-rows g)))
+      after : Accepted ≡ answer-of (header-rows f) → answer-of (contents-rows f ++ (tail-rows f ++ all-rows (body-count f) (body-rows f))) ≡ answer-of (contents-rows g ++ (tail-rows g ++ all-rows (body-count g) (body-rows g)))
       after e =
           let h = header-bounds f e in
           let i = header-bounds g (rw headers at e) in
-          same-start (contents-rows f) _ _ (λ k. sym (sixth f h lf k (each (body-count f) (records-rows f))) ∙ sixth g i lg (rw (contents h) at k) (each (body-count g) (records-rows g))) ∙ rw (contents h)
+          same-start (contents-rows f) _ _ (λ k. sym (sixth f h lf k (all-rows (body-count f) (body-rows f))) ∙ sixth g i lg (rw (contents h) at k) (all-rows (body-count g) (body-rows g))) ∙ rw (contents h)
 
 refuses : (f : List ℕ) → 8390 < length f → opening f ≡ Accepted → ⊥
 unfolding opening
@@ -146,7 +145,7 @@ unfolding opened
 same-opened f g nay e = sym (nothing f (nothing-found (opening f)) (opening f) (opening f) nay refl refl) ∙ nothing g (nothing-found (opening f)) (opening f) (opening g) nay refl e
 
 -- and every service refuses as opening does
-same-services : (f g : List ℕ) → (opening f ≡ Accepted → ⊥) → opening f ≡ opening g → (rows whole : List Row) → first (open-rows g ++ rows) ≡ first (open-rows f ++ whole)
+same-services : (f g : List ℕ) → (opening f ≡ Accepted → ⊥) → opening f ≡ opening g → (rows whole : List Row) → answer-of (open-rows g ++ rows) ≡ answer-of (open-rows f ++ whole)
 unfolding opening
 same-services f g nay e rows whole = sym (stop (open-rows g) rows _ nay e) ∙ stop (open-rows f) whole _ nay refl
 

@@ -13,10 +13,11 @@ use Rattle.model.specs.declared.Verdict.the-variants.{Accepted}
 use Rattle.model.specs.Lists.{All}
 use Rattle.model.specs.Sides.{span-of}
 use Rattle.model.specs.Records.{copy, need, mark}
-use Rattle.model.specs.Judging.{R, W, RW, Declaration, declares, permits, every, declared-once, Written, Rules}
+use Rattle.model.specs.Judging.{R, W, RW, Declaration, permits, every-record, declared-once, Written, Rules, all-written}
+use Rattle.model.specs.Inner.Declared.{declares}
 use Rattle.reading.specs.declared.Fields.{Fields}
-use Rattle.model.specs.Rows.{row, first, each}
-use Rattle.reading.specs.Bytes.{kind-of, body-count, layout-of, records-in, declarations-in, first-record, bodies-at, fields-at, between}
+use Rattle.model.specs.Rows.{row, answer-of, all-rows}
+use Rattle.reading.specs.Bytes.{kind-of, is-declared, body-count, layout-of, records-in, declarations-in, first-record, bodies-at, fields-at, between}
 use Rattle.format.specs.Opening.{open-rows, opening}
 use Rattle.format.specs.Plans.{side-of, action-of, declaration-of, pass-at, declared-plan-of}
 use Rattle.format.proofs.Acts.{acting}
@@ -25,8 +26,8 @@ use Rattle.model.proofs.Booleans.{and-out}
 use Rattle.model.proofs.Demand.Declarations.{barred}
 use Rattle.model.proofs.Rows.{holds, held, skips, skipped, empty, pass, passed}
 use Rattle.passes.specs.declared.Extent.{Extent}
-use Rattle.permits.specs.Permits.{declared-before, record-rows}
-use Rattle.judge.specs.Judged.{all-written, w-rows, pass-rows, judge-rows, judged}
+use Rattle.permits.specs.Permits.{declared-before, permit-rows}
+use Rattle.judge.specs.Judged.{w-rows, pass-rows, judge-rows, judged}
 use Rattle.judge.specs.Claims.{ClaimAccepts, Claim15}
 use Rattle.passes.specs.Inner.Passes.{PassAt}
 use Rattle.passes.proofs.Records.{declared-low, other-kind, others-walk, others-block}
@@ -65,7 +66,7 @@ w-kind k = elim (ℕᴺ-discrete k 17) [
 
 -- numbers 13 and 14 of a record with the fields x
 use-kept : (ds : List Declaration) (x : Fields) (r : ℕ) → 1 ≤ x .kind → x .kind ≤ 7 →
-    (Accepted ≡ first (row (between 1 2 (x .kind) && not (permits ds (action-of x))) 13 r ∷ row (between 3 5 (x .kind)) 14 r ∷ []))
+    (Accepted ≡ answer-of (row (between 1 2 (x .kind) && not (permits ds (action-of x))) 13 r ∷ row (between 3 5 (x .kind)) 14 r ∷ []))
     ↔ ((x .kind ≡ 6 → ⊥) → (x .kind ≡ 7 → ⊥) → permits ds (action-of x) ≡ true)
 use-kept ds x r low high = elim (decLt (x .kind) 3) [
   | yes h ↦ (
@@ -93,20 +94,20 @@ module _ (f : List ℕ) (a : Accepted ≡ opening f) (k : kind-of f ≡ 1) (b : 
   here = record { opens = a; declared = k; place = refl; low = low; high = high; from-is = refl; declarations-are = refl; records-are = refl }
 
   -- 12
-  once-kept : ((i : ℕ) → i < declarations-in f b → Accepted ≡ first (record-rows f b i)) ↔ (declared-once (pass-at f b .declarations) ≡ true)
-  unfolding pass-at record-rows declared-before
+  once-kept : ((i : ℕ) → i < declarations-in f b → Accepted ≡ answer-of (permit-rows f b i)) ↔ (declared-once (pass-at f b .declarations) ≡ true)
+  unfolding pass-at permit-rows declared-before
   once-kept =
       let same = once-table (λ i. declaration-of (fields-at f (first-record f b + i))) (declarations-in f b) in
       (λ r. same .1 (λ i l. skipped _ _ _ _ (rw (lt-ltb i (declarations-in f b) l) at (r i l)) .0), λ o i l. rw (lt-ltb i (declarations-in f b) l) (skips _ _ _ _ _ (same .0 o i l) empty))
 
   -- 13 and 14
-  record-kept : (i : ℕ) → declarations-in f b ≤ i → i < records-in f b → (Accepted ≡ first (record-rows f b i)) ↔ Passes (permits (pass-at f b .declarations)) f (first-record f b + i)
-  unfolding record-rows
+  record-kept : (i : ℕ) → declarations-in f b ≤ i → i < records-in f b → (Accepted ≡ answer-of (permit-rows f b i)) ↔ Passes (permits (pass-at f b .declarations)) f (first-record f b + i)
+  unfolding permit-rows
   record-kept i h l =
       let k = other-kind f extent here i h l in
       rw (le-ltb i (declarations-in f b) h) (use-kept (pass-at f b .declarations) (fields-at f (first-record f b + i)) (first-record f b + i) (k .0) (k .1))
 
-  uses-kept : ((i : ℕ) → declarations-in f b ≤ i → i < records-in f b → Accepted ≡ first (record-rows f b i)) ↔ (every (permits (pass-at f b .declarations)) (pass-at f b .body) ≡ true)
+  uses-kept : ((i : ℕ) → declarations-in f b ≤ i → i < records-in f b → Accepted ≡ answer-of (permit-rows f b i)) ↔ (every-record (permits (pass-at f b .declarations)) (pass-at f b .body) ≡ true)
   uses-kept =
       let from = first-record f b in
       let same = every-each (permits (pass-at f b .declarations)) f (from + declarations-in f b) (from + records-in f b) (others-walk f extent here) in
@@ -118,7 +119,7 @@ module _ (f : List ℕ) (a : Accepted ≡ opening f) (k : kind-of f ≡ 1) (b : 
       )
 
   -- 15
-  w-kept : (i : ℕ) → (Accepted ≡ first (w-rows f b i)) ↔ (declaration-of (fields-at f (first-record f b + i)) .mode ≡ W → Written (layout-of f) (pass-at f b .body) (declaration-of (fields-at f (first-record f b + i))))
+  w-kept : (i : ℕ) → (Accepted ≡ answer-of (w-rows f b i)) ↔ (declaration-of (fields-at f (first-record f b + i)) .mode ≡ W → Written (layout-of f) (pass-at f b .body) (declaration-of (fields-at f (first-record f b + i))))
   unfolding w-rows declaration-of
   w-kept i =
       let x = fields-at f (first-record f b + i) in
@@ -130,27 +131,27 @@ module _ (f : List ℕ) (a : Accepted ≡ opening f) (k : kind-of f ≡ 1) (b : 
         ]) empty,
       )
 
-  ws-kept : ((i : ℕ) → i < declarations-in f b → Accepted ≡ first (w-rows f b i)) ↔ All (λ (d : Declaration). d .mode ≡ W → Written (layout-of f) (pass-at f b .body) d) (pass-at f b .declarations)
+  ws-kept : ((i : ℕ) → i < declarations-in f b → Accepted ≡ answer-of (w-rows f b i)) ↔ All (λ (d : Declaration). d .mode ≡ W → Written (layout-of f) (pass-at f b .body) d) (pass-at f b .declarations)
   unfolding pass-at
   ws-kept =
       let same = all-table (λ (d : Declaration). d .mode ≡ W → Written (layout-of f) (pass-at f b .body) d) (λ i. declaration-of (fields-at f (first-record f b + i))) (declarations-in f b) in
       (λ r. same .1 (λ i l. w-kept i .0 (r i l)), λ w i l. w-kept i .1 (same .0 w i l))
 
-  pass-accepts : (Accepted ≡ first (pass-rows f b)) ↔ Rules (layout-of f) (pass-at f b)
+  pass-accepts : (Accepted ≡ answer-of (pass-rows f b)) ↔ Rules (layout-of f) (pass-at f b)
   unfolding pass-rows
   pass-accepts =
       let n = declarations-in f b in
       let m = records-in f b in
-      let records = each-accepts (record-rows f b) m in
+      let records = each-accepts (permit-rows f b) m in
       let declarations = each-accepts (w-rows f b) n in (
         λ e.
-            let q = passed (each m (record-rows f b)) _ e in
+            let q = passed (all-rows m (permit-rows f b)) _ e in
             record {
               once = once-kept .0 (λ i l. records .0 (q .0) i (omega (arith, declared-low f extent here)));
               permitted = uses-kept .0 (λ i h l. records .0 (q .0) i l);
               written = ws-kept .0 (declarations .0 (q .1));
             },
-        λ r. pass (each m (record-rows f b)) _ Accepted
+        λ r. pass (all-rows m (permit-rows f b)) _ Accepted
             (records .1 (λ i l. elim (decLt i n) [ yes h ↦ once-kept .1 (r .once) i h | no h ↦ uses-kept .1 (r .permitted) i (omega arith) l ]))
             (declarations .1 (ws-kept .1 (r .written))),
       )
@@ -164,9 +165,11 @@ accepted-rules f =
       λ e.
           let q = passed (open-rows f) _ (sym e) in
           let s = skipped _ _ _ _ (q .1) in
-          let k = eqb-true (kind-of f) 1 (not-false _ (s .0)) in
-          (sym (q .0), k, rules .1 (λ b l. pass-accepts f (q .0) k (suc b) (omega arith) (omega arith) .0 (passes .0 (s .1) b l))),
-      λ w. sym (judged-passes f (sym (w .0)) (w .1) Accepted (passes .1 (λ b l. pass-accepts f (sym (w .0)) (w .1) (suc b) (omega arith) (omega arith) .1 (rules .0 (w .2) b l)))),
+          let d = not-false (is-declared f) (s .0) in
+          let k = eqb-true (kind-of f) 1 d in
+          (sym (q .0), d, rules .1 (λ b l. pass-accepts f (q .0) k (suc b) (omega arith) (omega arith) .0 (passes .0 (s .1) b l))),
+      λ w. let k = eqb-true (kind-of f) 1 (w .1) in
+          sym (judged-passes f (sym (w .0)) k Accepted (passes .1 (λ b l. pass-accepts f (sym (w .0)) k (suc b) (omega arith) (omega arith) .1 (rules .0 (w .2) b l)))),
     )
 
 -- the row of 15, whatever the file
@@ -174,7 +177,12 @@ pub fifteen : Claim15
 unfolding w-rows declaration-of
 fifteen f b i =
     let x = fields-at f (first-record f b + i) in
+    let these = span-of (layout-of f) (x .array) in
     let left = left-cells (layout-of f) (pass-at f b .body) (declaration-of x) in (
-      λ e. let h = held _ _ _ e in (w-kind (x .kind) .1 (eqb-true (x .kind) 17 (and-out (eqb (x .kind) 17) _ h .0)), left .0 (not-true (all-written (layout-of f) (declaration-of x .side) (pass-at f b .body) (span-of (layout-of f) (x .array) .first) (span-of (layout-of f) (x .array) .length)) (and-out (eqb (x .kind) 17) _ h .1))),
-      λ p. sym (holds _ _ _ _ (rw (eq-eqb (x .kind) 17 (w-kind (x .kind) .0 (p .0)), left .1 (p .1)))),
+      λ e.
+          let h = and-out (eqb (x .kind) 17) _ (held _ _ _ e) in
+          let all = all-written (layout-of f) (declaration-of x .side) (pass-at f b .body) (these .first) (these .length) in
+          let (c, inside, cs, ds, w, way, none) = left .0 (not-true all (h .1)) in
+          (w-kind (x .kind) .1 (eqb-true (x .kind) 17 (h .0)), c, inside, cs, ds, w, way, none),
+      λ (k, c, inside, cs, ds, w, way, none). sym (holds _ _ _ _ (rw (eq-eqb (x .kind) 17 (w-kind (x .kind) .0 k), left .1 (c, inside, cs, ds, w, way, none)))),
     )

@@ -2,9 +2,9 @@
 ghost use mathlib.Core.Path.{_≡_};
 ghost use Prim.Native.Nat.{ℕ, suc, _-_};
 ghost use Rattle.model.specs.declared.Verdict.the-variants.{Accepted};
-ghost use Rattle.model.specs.Rows.{first, each};
+ghost use Rattle.model.specs.Rows.{answer-of, all-rows};
 ghost use Rattle.reading.specs.Bytes.{kind-of, body-count, declarations-in};
-ghost use Rattle.contents.specs.Found.{found};
+ghost use Rattle.contents.specs.Inner.Findings.{found};
 ghost use Rattle.format.specs.Opening.{opening, opened};
 ghost use Rattle.passes.specs.Inner.Passes.{PassAt};
 ghost use Rattle.permits.specs.Inner.Uses.{Sides};
@@ -29,7 +29,7 @@ use reading::record_at;
 // Number 15 by the set of the cells that every way through the pass writes: the lowest declaration that is not met.
 fn first_unmet(plan: &[u8], starts: &[u16; STARTS], set: &[bool; CELLS], e: Extent) -> Verdict
     requires { ⌜ PassAt (now plan) e × Decides (now plan) (now starts) (now set) e ⌝ }
-    ensures { λ v. ⌜ v ≡ first (each (declarations-in (now (plan .entry)) (e .body)) (w-rows (now (plan .entry)) (e .body))) ⌝ }
+    ensures { λ v. ⌜ v ≡ answer-of (all-rows (declarations-in (now (plan .entry)) (e .body)) (w-rows (now (plan .entry)) (e .body))) ⌝ }
 {
     let mut i: usize = 0;
     while i < e.declarations {
@@ -45,7 +45,7 @@ fn first_unmet(plan: &[u8], starts: &[u16; STARTS], set: &[bool; CELLS], e: Exte
 // Number 15 of a pass, of whose declarations these are the sides by array.
 fn unmet(plan: &[u8], starts: &[u16; STARTS], e: Extent, sides: &[u8; NAMES]) -> Verdict
     requires { ⌜ PassAt (now plan) e × Sides (now plan) e (now sides) × Tables (now plan) (now starts) (now sides) ⌝ }
-    ensures { λ v. ⌜ v ≡ first (each (declarations-in (now (plan .entry)) (e .body)) (w-rows (now (plan .entry)) (e .body))) ⌝ }
+    ensures { λ v. ⌜ v ≡ answer-of (all-rows (declarations-in (now (plan .entry)) (e .body)) (w-rows (now (plan .entry)) (e .body))) ⌝ }
 {
     let mut set = [false; CELLS];
     mark_written(
@@ -63,7 +63,7 @@ fn unmet(plan: &[u8], starts: &[u16; STARTS], e: Extent, sides: &[u8; NAMES]) ->
 // Numbers 12 to 14 by record, then 15, of one pass; `starts` has the first cell of each array.
 fn judge_pass(plan: &[u8], starts: &[u16; STARTS], e: Extent) -> Verdict
     requires { ⌜ PassAt (now plan) e × (now starts ≡ found (now plan) .«array_starts») ⌝ }
-    ensures { λ v. ⌜ v ≡ first (pass-rows (now (plan .entry)) (e .body)) ⌝ }
+    ensures { λ v. ⌜ v ≡ answer-of (pass-rows (now (plan .entry)) (e .body)) ⌝ }
 {
     let mut kinds = [0u8; NAMES];
     let mut sides = [0u8; NAMES];
@@ -81,7 +81,7 @@ fn judge_pass(plan: &[u8], starts: &[u16; STARTS], e: Extent) -> Verdict
 // Numbers 12 to 15 of every pass, in which opening found o.
 fn all_passes(plan: &[u8], o: Opened) -> Verdict
     requires { ⌜ (Accepted ≡ opening (now plan)) × (kind-of (now plan) ≡ 1) × (o ≡ found (now plan)) ⌝ }
-    ensures { λ v. ⌜ v ≡ first (each (body-count (now (plan .entry)) - 1) (λ (b : ℕ). pass-rows (now (plan .entry)) (suc b))) ⌝ }
+    ensures { λ v. ⌜ v ≡ answer-of (all-rows (body-count (now (plan .entry)) - 1) (λ (b : ℕ). pass-rows (now (plan .entry)) (suc b))) ⌝ }
 {
     let bodies = o.bodies as usize;
     let starts = o.array_starts;

@@ -1,5 +1,5 @@
 -- The arrays and the bodies of a file that opens, as opening found them: their entries, and that their records can be walked in the body's own bytes.
-use mathlib.Core.Path.{_≡_, refl, sym, ap, _∙_}
+use mathlib.Core.Path.{_≡_, refl, ap, _∙_}
 use mathlib.Core.List.{List}
 use Prim.Native.Nat.{ℕ, _+_, _*_, _-_, _≤_, _<_}
 use native.Mathlib.Numerals.{add-one}
@@ -13,8 +13,8 @@ use Rattle.reading.specs.declared.Fields.{Fields}
 use Rattle.contents.specs.declared.Opened.{Opened}
 use Rattle.reading.specs.Bytes.{byte-at, u16-at, array-count, body-count, length-at, layout-of, records-in, sizes-of, first-record, bodies-at, fields-at, first-arm, second-arm}
 use Rattle.format.specs.Opening.{open-rows, opening}
-use Rattle.contents.specs.Found.{found}
-use Rattle.format.specs.Views.{body-view-answer, body-at, body-bytes, viewed, body-view}
+use Rattle.contents.specs.Inner.Findings.{found}
+use Rattle.format.specs.Views.{body-view-answer, body-at, body-part, body-view}
 use Rattle.format.specs.Inner.Walks.{Walkable}
 use Rattle.model.proofs.Rows.{skipped, passed}
 use Rattle.reading.proofs.Tables.{next-cell, next-record, first-rises}
@@ -60,12 +60,15 @@ module _ (g f : List ℕ) (a c : ℕ) (near : (m n k : ℕ) → m ≡ a + k → 
 
 -- the bytes of body b, one after the other, and its records
 module _ (f : List ℕ) (b : ℕ) where
-  near : (k : ℕ) → k < 8 * records-in f b → byte-at (body-bytes f b) k ≡ byte-at f (bodies-at f + 8 * first-record f b + k)
+  abbrev body-bytes : List ℕ
+  body-bytes = take (8 * records-in f b) (drop (body-at f b) f)
+
+  near : (k : ℕ) → k < 8 * records-in f b → byte-at body-bytes k ≡ byte-at f (bodies-at f + 8 * first-record f b + k)
   near k h = getD-take (8 * records-in f b) (drop (body-at f b) f) k 0 h ∙ getD-drop (body-at f b) f k 0
 
-  record-near : (i : ℕ) → i < records-in f b → fields-in (body-bytes f b) i ≡ fields-at f (first-record f b + i)
+  record-near : (i : ℕ) → i < records-in f b → fields-in body-bytes i ≡ fields-at f (first-record f b + i)
   unfolding fields-in fields-at
-  record-near i h = same-fields (body-bytes f b) f (8 * i) (bodies-at f + 8 * (first-record f b + i)) (λ m n k p q l. rw (p, q) (near (8 * i + k) (omega arith) ∙ ap (byte-at f) (omega arith)))
+  record-near i h = same-fields body-bytes f (8 * i) (bodies-at f + 8 * (first-record f b + i)) (λ m n k p q l. rw (p, q) (near (8 * i + k) (omega arith) ∙ ap (byte-at f) (omega arith)))
 
 module _ (f : List ℕ) (o : Opened) (a : Accepted ≡ opening f) (e : o ≡ found f) where
   pub array-at : (k : ℕ) → k < o .arrays → Entry (o .«array_starts») k
@@ -79,8 +82,8 @@ module _ (f : List ℕ) (o : Opened) (a : Accepted ≡ opening f) (e : o ≡ fou
 
   module _ (b : ℕ) (l : b < body-count f) where
     is-body : body-view f b ≡ body-bytes f b
-    unfolding body-view
-    is-body = ap (viewed f b) (sym (view-some f b a l))
+    unfolding body-view body-part
+    is-body = rw (← view-some f b a l)
 
     pub body-stands : Stands f (o .«body_starts») b
     body-stands =

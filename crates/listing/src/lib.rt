@@ -4,7 +4,7 @@ ghost use Prim.Native.Nat.{_≤_, _<_};
 ghost use Rattle.model.specs.declared.Verdict.the-variants.{Accepted};
 ghost use Rattle.reading.specs.Bytes.{body-count};
 ghost use Rattle.format.specs.Opening.{opening};
-ghost use Rattle.contents.specs.Found.{found};
+ghost use Rattle.contents.specs.Inner.Findings.{found};
 use block::block;
 use console::page::Page;
 use contents::Opened;

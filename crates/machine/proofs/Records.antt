@@ -9,7 +9,7 @@ use native.Mathlib.Omega.{arith}
 use lib.Dec.{eqb}
 use lib.ListN.{length}
 use borrow.Author.Tests.{le-leb, lt-leb, eqb-true}
-use Rattle.model.specs.Sides.{Layout, cell-count, span-of}
+use Rattle.model.specs.Sides.{Side, Layout, cell-count, span-of}
 use Rattle.model.specs.Records.{Verb, read, write, copy, need, mark, whole, Action, cover-count}
 use Rattle.model.specs.Effects.{State, Deed, nothing, gets, puts, moves, counted, deed}
 use Rattle.model.specs.Runs.{Event, tally}
@@ -25,7 +25,8 @@ use Rattle.reading.proofs.Tables.{arrays-counted, array-length, next-cell}
 use Rattle.format.proofs.Walking.{opened-facts}
 use Rattle.format.proofs.Acts.{cells-fit, array-fits, acting, by-kind}
 use Rattle.known.proofs.Sets.{Piece}
-use Rattle.acts.specs.Inner.Acting.{CellsAt, ArrayAt}
+use Rattle.acts.specs.declared.Stored.{Stored}
+use Rattle.acts.specs.Inner.Acting.{CellsAt, ArrayAt, Holds}
 use Rattle.acts.proofs.Stale.{range-piece}
 use Rattle.reading.specs.Inner.Cells.{from-of, to-of}
 
@@ -117,7 +118,7 @@ module _ (layout : Layout) where
       go (puts s) h = (omega (arith, h), omega (arith, h))
       go (moves s t) h = (omega (arith, h), omega (arith, h))
 
-  pub few-moved : (y : Action) (from to : ℕ) → CellsAt layout y from to → to ≤ 4096 → (σ : State) (l : List Event) → tally layout (event y σ ∷ l) .moved ≤ tally layout l .moved + 4096
+  pub few-moved : (y : Action) (from to : ℕ) → CellsAt layout y from to → to ≤ 4096 → (σ : State) (l : List Event) → tally layout (event 0 y σ ∷ l) .moved ≤ tally layout l .moved + 4096
   few-moved y from to h b σ l = go (deed y σ)
     where
       go : (d : Deed) → counted d (cover-count layout y) (tally layout l) .moved ≤ tally layout l .moved + 4096
@@ -125,3 +126,23 @@ module _ (layout : Layout) where
       go (gets s) = omega arith
       go (puts s) = omega arith
       go (moves s t) = omega (arith, h .count)
+
+  -- the number of a record makes no difference to what memories, flags and tally hold
+  pub renumbered : (q r : ℕ) (y : Action) (σ : State) {t : Side} {s : Stored} {own others latest : List ℕ} {τ : State} {l : List Event} →
+      Holds layout t s own others latest τ (event q y σ ∷ l) → Holds layout t s own others latest τ (event r y σ ∷ l)
+  renumbered q r y σ h = record {
+    own-room = h .own-room;
+    others-room = h .others-room;
+    latest-room = h .latest-room;
+    own-held = h .own-held;
+    others-held = h .others-held;
+    latest-held = h .latest-held;
+    own-flags = h .own-flags;
+    others-flags = h .others-flags;
+    reads = h .reads;
+    writes = h .writes;
+    moved = h .moved;
+    counted = h .counted;
+    past = h .past;
+    knows = h .knows;
+  }

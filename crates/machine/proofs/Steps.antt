@@ -19,7 +19,7 @@ use Rattle.model.specs.Effects.{effect}
 use Rattle.model.specs.Records.{Action}
 use Rattle.model.specs.Blocks.{Block, _then_}
 use Rattle.model.specs.declared.Tally.{Tally}
-use Rattle.model.specs.Runs.{Config, Ending, finished, stopped, out-of-choices, Step, step, lowest-unmet, onward, tally}
+use Rattle.model.specs.Runs.{Config, Ending, finished, stopped, out-of-choices, Step, step, lowest-unmet, onward, tally, proper}
 use Rattle.model.proofs.Runs.{config, event}
 use Rattle.reading.specs.declared.Fields.{Fields}
 use Rattle.reading.specs.Bytes.{kind-of, array-count, layout-of, record-count, fields-at, between, first-arm, second-arm}
@@ -41,12 +41,12 @@ use Rattle.acts.specs.Inner.Acting.{Rooms, Low, CellsAt, ArrayAt, Holds, Acts}
 use Rattle.places.specs.Inner.Places.{Spot, skipped, into, settled, chosen, rest-of, left-of, weight, Part, Placed}
 use Rattle.standing.specs.Inner.Standing.{Runner, stored-with, tally-with, past-record, ended-with, moved-to, after-act, tally-after, tested, measure, next-record, said-of, Stands, StepsAs, Steps, Stood, Reaches}
 use Rattle.reading.specs.Inner.Cells.{from-of, to-of}
-use Rattle.machine.proofs.Records.{few-arrays, spans, piece, whole-at, inside, few-counted, few-moved}
+use Rattle.machine.proofs.Records.{few-arrays, spans, piece, whole-at, inside, few-counted, few-moved, renumbered}
 use Rattle.places.proofs.Places.{left-into, starts-into, placed-into, into-used, settling, light}
 
 -- the step of a configuration whose parts are known
-step-at : (layout : Layout) (k : Config) (b : Block Action) (cs : List Bool) → k .left ≡ b → k .choices ≡ cs → step layout k ≡ step layout (config b cs (k .state) (k .history))
-step-at layout k b cs e g = λ i. step layout (config (e i) (g i) (k .state) (k .history))
+step-at : (layout : Layout) (k : Config) (b : Block Action) (cs : List Bool) → k .left ≡ b → k .choices ≡ cs → step proper layout k ≡ step proper layout (config b cs (k .state) (k .history))
+step-at layout k b cs e g = λ i. step proper layout (config (e i) (g i) (k .state) (k .history))
 
 -- a record of the plan where a place is
 module _ (f : List ℕ) (bodies : ℕ) (w : Plain f bodies) (d r end : ℕ) (part : Part f d r end) (h : r < end) (x : Fields) (e : x ≡ fields-at f r) where
@@ -110,10 +110,10 @@ module _ (f choices : List ℕ) (m : Runner) (own others latest : List ℕ) (t :
 
   -- what a step from here is to show, of where it leads
   abbrev Stepped : Runner → List ℕ → List ℕ → List ℕ → Tally → Type 0
-  Stepped m′ own′ others′ latest′ t′ = StepsAs f choices k m′ own′ others′ latest′ t′ (step layout k) × (measure (length choices) m′ < measure (length choices) m)
+  Stepped m′ own′ others′ latest′ t′ = StepsAs f choices k m′ own′ others′ latest′ t′ (step proper layout k) × (measure (length choices) m′ < measure (length choices) m)
 
   -- the run ends here
-  end-here : (v : Verdict) (e : Ending) → v ≡ said-of e → step layout k ≡ Step.ends e → Stepped (ended-with m v) own others latest t
+  end-here : (v : Verdict) (e : Ending) → v ≡ said-of e → step proper layout k ≡ Step.ends e → Stepped (ended-with m v) own others latest t
   unfolding measure
   end-here v e q s = (
     rw s (
@@ -152,7 +152,7 @@ module _ (f choices : List ℕ) (m : Runner) (own others latest : List ℕ) (t :
 
   -- a branch or a test takes a choice
   took : (c : Spot) (b : Block Action) → p .used < length choices → p .at ≡ next-record (k .left) →
-      step layout k ≡ Step.next (config b (choices-of (drop (suc (p .used)) choices)) (k .state) (k .history)) →
+      step proper layout k ≡ Step.next (config b (choices-of (drop (suc (p .used)) choices)) (k .state) (k .history)) →
       left-of f c ≡ b → Placed f c → Starts f (c .room) → c .used ≡ p .used + 1 → Stepped (moved-to m (settled c) (m .flags) (m .others) (m .known)) own others latest t
   unfolding measure
   took c b h number s l placed starts u =
@@ -280,7 +280,7 @@ module _ (f choices : List ℕ) (m : Runner) (own others latest : List ℕ) (t :
         by-kind : (u : p .used < length choices) → Stepped (moved-to m (settled (chosen p x (getD choices (p .used) 0))) (m .flags) (m .others) (m .known)) own others latest t
         by-kind u = elim (ℕᴺ-discrete (x .kind) 6) [ yes z ↦ branch-took u z | no z ↦ loop-took u (omega (arith, a)) ]
 
-        none-left : p .used ≡ length choices → step layout k ≡ Step.ends (out-of-choices (p .at))
+        none-left : p .used ≡ length choices → step proper layout k ≡ Step.ends (out-of-choices (p .at))
         none-left u = elim (ℕᴺ-discrete (x .kind) 6) [
           | yes z ↦ step-at layout k _ [] (branch-left z) (spent u)
           | no z ↦ step-at layout k _ [] (w .left ∙ loop-here (omega (arith, a))) (spent u)
@@ -296,8 +296,8 @@ module _ (f choices : List ℕ) (m : Runner) (own others latest : List ℕ) (t :
 
     -- a record that acts
     at-act : x .kind ≤ 5 → (s : Stored) (own′ others′ latest′ : List ℕ) → lowest-unmet layout (action-of x) (k .state) ≡ none →
-        Holds layout host s own′ others′ latest′ (effect layout (action-of x) (k .state)) (event (action-of x) (k .state) ∷ k .history) →
-        tally layout (event (action-of x) (k .state) ∷ k .history) .moved ≤ tally layout (k .history) .moved + 4096 →
+        Holds layout host s own′ others′ latest′ (effect layout (action-of x) (k .state)) (event 0 (action-of x) (k .state) ∷ k .history) →
+        tally layout (event (p .at) (action-of x) (k .state) ∷ k .history) .moved ≤ tally layout (k .history) .moved + 4096 →
         Stepped (moved-to m (settled (past-record p)) (s .flags) (s .«other_flags») (s .known)) own′ others′ latest′ (tally-with s)
     unfolding measure weight
     at-act y s own′ others′ latest′ o held b =
@@ -305,7 +305,7 @@ module _ (f choices : List ℕ) (m : Runner) (own others latest : List ℕ) (t :
         let n : then-next ≡ p .at + 1 = omega (arith, a) in
         let rest : Part f (p .depth) (p .at + 1) (p .end) = rw n at (rest-part f (m .bodies) (w .plain) (p .depth) (p .at) (p .end) part h x e) in
         let q = settling f (p .depth) (past-record p) refl (record { size = w .placed .size; here = rest; behind = w .placed .behind; shallow = w .placed .shallow }) in
-        let went : step layout k ≡ Step.next (config (left-of f (past-record p)) (k .choices) (effect layout (action-of x) (k .state)) (event (action-of x) (k .state) ∷ k .history)) = step-at layout k _ (k .choices) (act-left y) refl ∙ rw o in (
+        let went : step proper layout k ≡ Step.next (config (left-of f (past-record p)) (k .choices) (effect layout (action-of x) (k .state)) (event (p .at) (action-of x) (k .state) ∷ k .history)) = step-at layout k _ (k .choices) (act-left y) refl ∙ rw o in (
           rw went (
             run,
             sym (ap next-record (act-left y)),
@@ -318,7 +318,7 @@ module _ (f choices : List ℕ) (m : Runner) (own others latest : List ℕ) (t :
               left = sym (q .left);
               used = omega (arith, w .used, q .used);
               choices-left = rw (q .used) (w .choices-left);
-              holds = held;
+              holds = renumbered layout 0 (p .at) (action-of x) (k .state) held;
               few = omega (arith, w .few, q .used, q .lighter);
               few-moved = omega (arith, w .few-moved, b);
             },
@@ -371,7 +371,7 @@ module _ (f choices : List ℕ) (m : Runner) (own others latest : List ℕ) (t :
 
 -- what a call of `step` ensures, from what it does at each configuration
 pub ensured : (f choices : List ℕ) (m : Runner) (own others latest : List ℕ) (t : Tally) (m′ : Runner) (own′ others′ latest′ : List ℕ) (t′ : Tally) (n : ℕ) → Stood f choices m own others latest t →
-    ((k : Config) → Stands f choices m own others latest t k → StepsAs f choices k m′ own′ others′ latest′ t′ (step (layout-of f) k) × (measure (length choices) m′ < measure (length choices) m)) →
+    ((k : Config) → Stands f choices m own others latest t k → StepsAs f choices k m′ own′ others′ latest′ t′ (step proper (layout-of f) k) × (measure (length choices) m′ < measure (length choices) m)) →
     Same n own own′ → Same n others others′ → Same n latest latest′ →
     Steps f choices m own others latest t m′ own′ others′ latest′ t′ × (measure (length choices) m′ < measure (length choices) m) × Same n own own′ × Same n others others′ × Same n latest latest′
 ensured f choices m own others latest t m′ own′ others′ latest′ t′ n w law a b c = (λ k v. law k v .0, law (w .config) (w .stands) .1, a, b, c)
@@ -383,8 +383,8 @@ stood w = record { config = w .config; stands = w .stands }
 pub goes-on : {f choices : List ℕ} {m : Runner} {own others latest : List ℕ} {t : Tally} {m′ : Runner} {own′ others′ latest′ : List ℕ} {t′ : Tally} →
     Reaches f choices m own others latest t → Steps f choices m own others latest t m′ own′ others′ latest′ t′ → Reaches f choices m′ own′ others′ latest′ t′
 unfolding plan-of
-goes-on {f} {choices} {m′ = m′} {own′} {others′} {latest′} {t′} w law = go (step (layout-of f) (w .config)) refl (law (w .config) (w .stands))
+goes-on {f} {choices} {m′ = m′} {own′} {others′} {latest′} {t′} w law = go (step proper (layout-of f) (w .config)) refl (law (w .config) (w .stands))
   where
-    go : (s : Step) → step (layout-of f) (w .config) ≡ s → StepsAs f choices (w .config) m′ own′ others′ latest′ t′ s → Reaches f choices m′ own′ others′ latest′ t′
+    go : (s : Step) → step proper (layout-of f) (w .config) ≡ s → StepsAs f choices (w .config) m′ own′ others′ latest′ t′ s → Reaches f choices m′ own′ others′ latest′ t′
     go (Step.next k) q s = record { config = k; run = onward (w .run) q; stands = s .2; ended = rw (s .0) tt }
     go (Step.ends e) q s = record { config = w .config; run = w .run; stands = s .2; ended = rw (s .0) (record { ending = e; last = q; says = s .1 }) }

@@ -11,7 +11,8 @@ use lib.Bits.{bitAnd, bitOr, bitXor, and-block, or-block, xor-block}
 use lib.Count.{ones, onesIn, ones-cat}
 use lib.Pow.{pow-pos, shl-exact}
 use borrow.Author.Tests.{eq-eqb, ne-eqb}
-use Rattle.memories.specs.Flags.{mask, set-flags}
+use Rattle.model.specs.Lists.{how-many}
+use Rattle.memories.specs.Flags.{mask}
 
 -- a flag as a digit
 abbrev digit : Bool → ℕ
@@ -141,11 +142,11 @@ module _ (n : ℕ) (flag : ℕ → Bool) (a : ℕ) (h : a < n) where
       go false false = refl
 
 -- how many are set
-pub counted : (n : ℕ) (x : ℕ → Bool) → ones (mask n x) ≡ set-flags n x
-unfolding mask set-flags ones onesIn
+pub counted : (n : ℕ) (x : ℕ → Bool) → ones (mask n x) ≡ how-many x n
+unfolding mask ones onesIn
 counted zero x = refl
-counted (suc n) x = ones-cat n (digit (x n)) (mask n x) (mask-low n x) ∙ ap₂ (λ (p q : ℕ). p + q) (go (x n)) (counted n x)
+counted (suc n) x = ones-cat n (digit (x n)) (mask n x) (mask-low n x) ∙ go (x n) (counted n x)
   where
-    go : (b : Bool) → ones (digit b) ≡ digit b
-    go true = refl
-    go false = refl
+    go : (b : Bool) → ones (mask n x) ≡ how-many x n → ones (digit b) + ones (mask n x) ≡ cond b (suc (how-many x n)) (how-many x n)
+    go true e = omega (arith, e)
+    go false e = omega (arith, e)

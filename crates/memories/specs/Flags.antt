@@ -6,8 +6,3 @@ use mathlib.Core.Bool.{Bool, cond}
 unfoldable pub mask : ℕ → (ℕ → Bool) → ℕ
 mask zero flag = 0
 mask (suc n) flag = cond (flag n) 1 0 * 2 ^ n + mask n flag
-
--- how many of them are set
-unfoldable pub set-flags : ℕ → (ℕ → Bool) → ℕ
-set-flags zero flag = 0
-set-flags (suc n) flag = cond (flag n) 1 0 + set-flags n flag

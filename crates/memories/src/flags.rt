@@ -3,7 +3,8 @@ ghost use mathlib.Core.Path.{_≡_};
 ghost use mathlib.Core.Bool.{Bool, true, false, cond};
 ghost use Prim.Native.Nat.{ℕ, _≤_, _<_};
 ghost use lib.Dec.{eqb};
-ghost use Rattle.memories.specs.Flags.{mask, set-flags};
+ghost use Rattle.model.specs.Lists.{how-many};
+ghost use Rattle.memories.specs.Flags.{mask};
 
 // Whether an array's flag is set.
 pub fn flag_set(flags: u32, array: u8) -> bool
@@ -39,7 +40,7 @@ pub fn all_flags(arrays: u8) -> u32
 
 // How many flags are set.
 pub fn flags_set(flags: u32) -> u32
-    ensures { λ r. ⌜ ((n : ℕ) (flag : ℕ → Bool) → flags ≡ mask n flag → r ≡ set-flags n flag) ⌝ }
+    ensures { λ r. ⌜ ((n : ℕ) (flag : ℕ → Bool) → flags ≡ mask n flag → r ≡ how-many flag n) ⌝ }
 {
     u32::count_ones(flags)
 }

@@ -67,6 +67,12 @@ is-not host card = refl
 is-not card host = refl
 is-not card card = refl
 
+pub other-side : (t w : Side) → not (same-side t w) ≡ true → other w ≡ t
+other-side host host e = absurd (false≢true e)
+other-side host card e = refl
+other-side card host e = refl
+other-side card card e = absurd (false≢true e)
+
 pub same-or-other : (s t : Side) → (t ≡ s) ⊎ (t ≡ other s)
 same-or-other host host = inl refl
 same-or-other host card = inr refl

@@ -8,3 +8,4 @@ pub mod Coherence
 pub mod Moves
 pub mod Following
 pub mod Adding
+pub mod Telling

@@ -1,30 +1,33 @@
 -- Demand 3, of every plan that the judge accepts and every list of choices.
-use Prim.Native.Nat.{ℕ, _+_, _<_}
+use Prim.Native.Nat.{ℕ, _<_}
 use mathlib.Core.Path.{_≡_, refl, ap, sym, _∙_}
-use mathlib.Core.List.{List, [], _∷_, _++_, map, reverseAux as onto}
+use mathlib.Core.List.{List, [], _∷_, _++_, map, reverse, reverseAux as onto}
 use mathlib.Core.Option.{Option, none, some}
 use mathlib.Core.Bool.{Bool, true, false, cond, false≢true}
 use native.Mathlib.Omega.{arith}
 use borrow.Author.Tests.{eqb-true}
 use Rattle.model.specs.Lists.{keep, chain}
-use Rattle.model.specs.Sides.{Side, Stamp, never, at, equals, cell-count, Layout}
-use Rattle.model.specs.Records.{read, whole, Action, covers}
-use Rattle.model.specs.Effects.{met}
+use Rattle.model.specs.declared.Tally.{Tally}
+use Rattle.model.specs.Sides.{Side, host, Stamp, never, at, equals, cell-count, Layout}
+use Rattle.model.specs.Records.{read, whole, Action, covers, cover-count}
+use Rattle.model.specs.Effects.{counted, met}
 use Rattle.model.specs.Blocks.{Block, act}
-use Rattle.model.specs.Runs.{Event, Config, stopped, carry, lowest-unmet, stop-or, step, Run, Ends}
+use Rattle.model.specs.Runs.{Event, Config, stopped, lowest-unmet, stop-or, step, Run, Ends, carried-on, proper, tally}
 use Rattle.model.specs.Judging.{Pass, DeclaredPlan, Accepts}
 use Rattle.model.specs.Expanding.{expansion}
-use Rattle.model.specs.Demand.{latest-write, Called, Made, executed, moved-cells, Moves}
+use Rattle.model.specs.Demand.{latest-write, Called, ExactMoves}
 use Rattle.model.specs.Claims.{Claim3, ClaimMoved}
 use Rattle.model.proofs.Runs.{config, carried}
 use Rattle.model.proofs.Stamps.{tracked}
 use Rattle.model.proofs.Unmet.{all-met}
 use Rattle.model.proofs.Demand.Walks.{way-same, called-same}
-use Rattle.model.proofs.Demand.Stages.{all-onto, walked, declares-all, asks-all}
+use Rattle.model.proofs.Demand.Stages.{Did, executed, all-onto, whole-events, walked, declares-all, executed-so-far}
 use Rattle.model.proofs.Demand.Coherence.{coherent}
 use Rattle.model.proofs.Demand.Moves.{once-from-start, once-from-write}
 use Rattle.model.proofs.Demand.Following.{Finished, follows, at-end}
-use Rattle.model.proofs.Demand.Adding.{adds-all}
+use Rattle.model.proofs.Demand.Adding.{moved-onto, moved-whole}
+use Rattle.model.proofs.Demand.Numbers.{unnumbered-event, unnumbered-events}
+use Rattle.model.proofs.Demand.Telling.{tell, told-declarations, told-gave, told-once, told-after}
 
 equal-stamp : (x : Stamp) (k : ℕ) → equals x k ≡ true → x ≡ at k
 equal-stamp never k e = absurd (false≢true e)
@@ -51,26 +54,43 @@ chain-onto : {A B : Type 0} (f : A → List B) (l rest : List A) → chain f (on
 chain-onto f [] rest = refl
 chain-onto f (x ∷ l) rest = chain-onto f l (x ∷ rest) ∙ sym (onto-onto (f x) (all-onto f l) (chain f rest))
 
+-- record numbers make no difference to what is kept and to what is moved
+whole-unnumbered : (l : List Event) → whole-events (unnumbered-events l) ≡ unnumbered-events (whole-events l)
+whole-unnumbered [] = refl
+whole-unnumbered (e ∷ l) = go (whole (e .action .verb)) (whole-unnumbered l)
+  where
+    go : (b : Bool) → whole-events (unnumbered-events l) ≡ unnumbered-events (whole-events l) →
+        cond b (unnumbered-event e ∷ whole-events (unnumbered-events l)) (whole-events (unnumbered-events l)) ≡ unnumbered-events (cond b (e ∷ whole-events l) (whole-events l))
+    go true i = ap (_∷_ (unnumbered-event e)) i
+    go false i = i
+
+tally-unnumbered : (layout : Layout) (l : List Event) → tally layout (unnumbered-events l) ≡ tally layout l
+tally-unnumbered layout [] = refl
+tally-unnumbered layout (e ∷ l) = ap (counted (e .deed) (cover-count layout (e .action))) (tally-unnumbered layout l)
+
+moved-unnumbered : (layout : Layout) (l : List Event) → tally layout (unnumbered-events l) .moved ≡ tally layout l .moved
+moved-unnumbered layout l = ap (λ (t : Tally). t .moved) (tally-unnumbered layout l)
+
 module _ (plan : DeclaredPlan) (cs : List Bool) (ok : Accepts plan) where
   unstuck : (k : Config) (r c : ℕ) → Ends (expansion plan) cs k (stopped r c) → ⊥
   unstuck k r c e = at-end plan cs ok e
 
-  met-now : {k : Config} → Run (expansion plan) cs k → (r : ℕ) (x : Action) (b : Block Action) → k .left ≡ act r x b →
+  met-now : {k : Config} → Run proper (expansion plan) cs k → (r : ℕ) (x : Action) (b : Block Action) → k .left ≡ act r x b →
       lowest-unmet (plan .layout) x (k .state) ≡ none
   met-now {k} h r x b e = go (lowest-unmet (plan .layout) x (k .state)) refl
     where
-      at-record : step (plan .layout) k ≡ stop-or r (lowest-unmet (plan .layout) x (k .state)) (carry (plan .layout) (config (act r x b) (k .choices) (k .state) (k .history)))
-      at-record = ap (λ l. step (plan .layout) (config l (k .choices) (k .state) (k .history))) e
+      at-record : step proper (plan .layout) k ≡ stop-or r (lowest-unmet (plan .layout) x (k .state)) (step carried-on (plan .layout) (config (act r x b) (k .choices) (k .state) (k .history)))
+      at-record = ap (λ l. step proper (plan .layout) (config l (k .choices) (k .state) (k .history))) e
 
       go : (o : Option ℕ) → lowest-unmet (plan .layout) x (k .state) ≡ o → lowest-unmet (plan .layout) x (k .state) ≡ none
       go none u = u
       go (some c) u = absurd (unstuck k r c (record { run = h; last = rw u at at-record }))
 
-  latest : {k : Config} → Run (expansion plan) cs k → (s : Side) (c : ℕ) → k .state .cell c .held s ≡ at (k .state .cell c .latest) →
+  latest : {k : Config} → Run proper (expansion plan) cs k → (s : Side) (c : ℕ) → k .state .cell c .held s ≡ at (k .state .cell c .latest) →
       k .state .cell c .held s ≡ at (latest-write (plan .layout) (k .history) c)
   latest h s c e = e ∙ ap at (tracked (expansion plan) (carried (expansion plan) h) .latest c)
 
-  reads : (k : Config) → Run (expansion plan) cs k → (r : ℕ) (x : Action) (b : Block Action) → k .left ≡ act r x b → x .verb ≡ read →
+  reads : (k : Config) → Run proper (expansion plan) cs k → (r : ℕ) (x : Action) (b : Block Action) → k .left ≡ act r x b → x .verb ≡ read →
       (c : ℕ) → c < cell-count (plan .layout) → covers (plan .layout) x c ≡ true → k .state .cell c .held (x .side) ≡ at (latest-write (plan .layout) (k .history) c)
   reads k h r x b e v c i w =
       let m = all-met (plan .layout) x (k .state) (met-now h r x b e) c i in
@@ -80,21 +100,34 @@ module _ (plan : DeclaredPlan) (cs : List Bool) (ok : Accepts plan) where
           equals (k .state .cell c .held (x .side)) (k .state .cell c .latest) ≡ true
       read-needs x v w m = rw (w, v) at m
 
-  current : (k : Config) → Run (expansion plan) cs k → (c : ℕ) → c < cell-count (plan .layout) →
+  current : (k : Config) → Run proper (expansion plan) cs k → (c : ℕ) → c < cell-count (plan .layout) →
       (s : Side) × (k .state .cell c .held s ≡ at (latest-write (plan .layout) (k .history) c))
   current k h c i = let s = coherent plan cs ok c i (follows plan cs ok h .stages) .current in (s .0, latest h (s .0) c (s .1))
 
-  moved : {k : Config} → Finished plan cs (k .choices) (k .history) → Moves plan cs k
-  moved {k} f = record {
-    passes = onto (f .called) [];
-    calls = walked plan cs (f .stages);
-    only = λ unused ps w. way-same (Called (plan .passes)) (called-same (plan .passes)) w (walked plan cs (f .stages)) .1;
-    made = onto (f .made) [];
-    declared = map-onto (λ (d : Made). d .declaration) (f .made) [] ∙ (ap (λ l. onto l []) (declares-all plan cs (f .stages)) ∙ sym (chain-onto (λ (p : Pass). p .declarations) (f .called) []));
-    executed-all = keep-onto (λ (e : Event). whole (e .action .verb)) (k .history) [] ∙ (ap (λ l. onto l []) (asks-all plan cs ok (f .stages)) ∙ sym (chain-onto executed (f .made) []));
-    from-start = λ a. once-from-start a plan cs ok (f .stages);
-    from-write = λ a. once-from-write a plan cs ok (f .stages);
-  }
+  -- the needs and marks of the run, in order, without their numbers
+  in-order : (k : Config) (f : Finished plan cs (k .choices) (unnumbered-events (k .history))) →
+      unnumbered-events (keep (λ (e : Event). whole (e .action .verb)) (reverse (k .history))) ≡ chain executed (onto (f .made) [])
+  in-order k f =
+      ap unnumbered-events (keep-onto (λ (e : Event). whole (e .action .verb)) (k .history) [])
+      ∙ (map-onto unnumbered-event (whole-events (k .history)) []
+      ∙ (ap (λ l. onto l []) (sym (whole-unnumbered (k .history)) ∙ executed-so-far plan cs ok (f .stages)) ∙ sym (chain-onto executed (f .made) [])))
+
+  moved : {k : Config} → Finished plan cs (k .choices) (unnumbered-events (k .history)) → ExactMoves plan cs k
+  moved {k} f =
+      let did = onto (f .made) [] in
+      let told = tell did (keep (λ (e : Event). whole (e .action .verb)) (reverse (k .history))) (in-order k f) in
+      record {
+        passes = onto (f .called) [];
+        calls = walked plan cs (f .stages);
+        only = λ unused ps w. way-same (Called (plan .passes)) (called-same (plan .passes)) w (walked plan cs (f .stages)) .1;
+        made = told .made;
+        from-passes = told-declarations did (told .made) (told .alike)
+            ∙ (map-onto (λ (d : Did). d .declaration) (f .made) [] ∙ (ap (λ l. onto l []) (declares-all plan cs (f .stages)) ∙ sym (chain-onto (λ (p : Pass). p .declarations) (f .called) [])));
+        gave = told-gave did (told .made) (told .alike);
+        in-order = told .all;
+        from-start = λ a. told-once a host did (told .made) (told .alike) (once-from-start a plan cs ok (f .stages));
+        from-write = λ a before after d e w. told-after a did (told .made) before after d (told .alike) e w (once-from-write a plan cs ok (f .stages));
+      }
 
 pub demand3 : Claim3
 demand3 plan ok cs = record {
@@ -104,10 +137,17 @@ demand3 plan ok cs = record {
   moves-exactly = λ k e. moved plan cs ok (at-end plan cs ok e);
 }
 
-moved-onto : (layout : Layout) (l rest : List Made) → moved-cells layout (onto l rest) ≡ moved-cells layout l + moved-cells layout rest
-moved-onto layout [] rest = omega arith
-moved-onto layout (d ∷ l) rest = omega (arith, moved-onto layout l (d ∷ rest))
-
 pub moves-add : ClaimMoved
-unfolding moved
-moves-add plan ok cs k e = let f = at-end plan cs ok e in (moved plan cs ok f, adds-all plan cs ok (f .stages) ∙ sym (moved-onto (plan .layout) (f .made) [] ∙ omega arith))
+moves-add plan ok cs k e =
+    let f = at-end plan cs ok e in
+    let m = moved plan cs ok f in
+    let layout = plan .layout in
+    let history = k .history in (
+      m,
+      sym (moved-unnumbered layout history)
+          ∙ (moved-whole plan cs ok (f .stages)
+          ∙ (ap (λ l. tally layout l .moved) (whole-unnumbered history)
+          ∙ (moved-unnumbered layout (whole-events history)
+          ∙ (omega (arith, moved-onto layout (whole-events history) [])
+          ∙ ap (λ l. tally layout l .moved) (sym (keep-onto (λ (e : Event). whole (e .action .verb)) history []) ∙ m .in-order))))),
+    )

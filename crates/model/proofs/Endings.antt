@@ -8,7 +8,7 @@ use mathlib.Core.Option.{Option, none, some}
 use Rattle.model.specs.Records.{Action}
 use Rattle.model.specs.Effects.{State, start, effect}
 use Rattle.model.specs.Blocks.{Block, done, act, branch, loop, _then_, Plan}
-use Rattle.model.specs.Runs.{Event, Config, Ending, finished, stopped, out-of-choices, Step, next, ends, stop-or, lowest-unmet, step, Reached, here, onward, Run, Ends}
+use Rattle.model.specs.Runs.{Event, Config, Ending, finished, stopped, out-of-choices, Step, next, ends, stop-or, lowest-unmet, step, Reached, here, onward, Run, Ends, proper}
 use Rattle.model.specs.Claims.{ClaimEnding}
 use Rattle.model.proofs.Runs.{config, event, next-same}
 
@@ -21,20 +21,20 @@ module _ (plan : Plan) (all : List Bool) where
 
   -- with the choices cs left, whatever else is left
   abbrev EndsWith : List Bool → Type 0
-  EndsWith cs = (b : Block Action) (σ : State) (l : List Event) → Run plan all (config b cs σ l) → Ended
+  EndsWith cs = (b : Block Action) (σ : State) (l : List Event) → Run proper plan all (config b cs σ l) → Ended
 
-  ended : (k : Config) (e : Ending) → Run plan all k → step (plan .layout) k ≡ ends e → Ended
+  ended : (k : Config) (e : Ending) → Run proper plan all k → step proper (plan .layout) k ≡ ends e → Ended
   ended k e h q = record { last = k; ending = e; ends = record { run = h; last = q } }
 
-  end-act : (cs : List Bool) (r : ℕ) (x : Action) (b : Block Action) → ((σ : State) (l : List Event) → Run plan all (config b cs σ l) → Ended) →
-      (σ : State) (l : List Event) → Run plan all (config (act r x b) cs σ l) → Ended
+  end-act : (cs : List Bool) (r : ℕ) (x : Action) (b : Block Action) → ((σ : State) (l : List Event) → Run proper plan all (config b cs σ l) → Ended) →
+      (σ : State) (l : List Event) → Run proper plan all (config (act r x b) cs σ l) → Ended
   end-act cs r x b more σ l h = go (lowest-unmet (plan .layout) x σ) refl
     where
       after : Step
-      after = next (config b cs (effect (plan .layout) x σ) (event x σ ∷ l))
+      after = next (config b cs (effect (plan .layout) x σ) (event r x σ ∷ l))
 
       go : (o : Option ℕ) → lowest-unmet (plan .layout) x σ ≡ o → Ended
-      go none q = more (effect (plan .layout) x σ) (event x σ ∷ l) (onward h (ap (λ o. stop-or r o after) q))
+      go none q = more (effect (plan .layout) x σ) (event r x σ ∷ l) (onward h (ap (λ o. stop-or r o after) q))
       go (some c) q = ended (config (act r x b) cs σ l) (stopped r c) h (ap (λ o. stop-or r o after) q)
 
   end-empty : EndsWith []
@@ -101,7 +101,7 @@ module _ (one : Config → Step) where
       same = go (compare g h)
 
 ends-once : {plan : Plan} {cs : List Bool} {j k : Config} {d e : Ending} → Ends plan cs j d → Ends plan cs k e → (j ≡ k) × (d ≡ e)
-ends-once {plan} g h = one-end (step (plan .layout)) (g .run) (g .last) (h .run) (h .last)
+ends-once {plan} g h = one-end (step proper (plan .layout)) (g .run) (g .last) (h .run) (h .last)
 
 pub ends-in-one-way : ClaimEnding
 ends-in-one-way plan cs = let e = run-ends plan cs in (e .last, e .ending, e .ends, λ j d h. ends-once h (e .ends))

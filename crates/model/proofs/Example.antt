@@ -1,8 +1,8 @@
--- Demand 3 is not empty: a plan that the judge accepts, a W on the card and then an R on the host of an array of two cells,
--- whose run finishes and moves the array once.
+-- Demand 3 is not empty: a plan that the judge accepts, a W on the card and then an RW on the host of an array of two cells,
+-- whose run finishes and moves the array once, in the interval that the RW closes.
 use Prim.Native.Nat.{ℕ, zero, suc, _<_}
 use mathlib.Core.Path.{_≡_, refl}
-use mathlib.Core.List.{[], _∷_}
+use mathlib.Core.List.{[], _∷_, _++_, reverse}
 use mathlib.Core.Bool.{true, true≢false}
 use native.Mathlib.Omega.{arith}
 use Rattle.model.specs.Lists.{sum-before}
@@ -10,10 +10,10 @@ use Rattle.model.specs.Sides.{Side, host, card}
 use Rattle.model.specs.Records.{Verb, read, write, need, mark, Action, whole-of, covers}
 use Rattle.model.specs.Effects.{Deed, nothing, gets, puts, moves}
 use Rattle.model.specs.Blocks.{Block, act}
-use Rattle.model.specs.Runs.{Event, Config, Step, next, ends, finished, step, begin, here, onward, Ends}
-use Rattle.model.specs.Judging.{R, W, Pass, DeclaredPlan, Rules, Accepts}
+use Rattle.model.specs.Runs.{Event, Config, Step, next, ends, finished, step, begin, here, onward, Ends, proper}
+use Rattle.model.specs.Judging.{W, RW, Pass, DeclaredPlan, Rules, Accepts}
 use Rattle.model.specs.Expanding.{expansion}
-use Rattle.model.specs.Demand.{Moves}
+use Rattle.model.specs.Demand.{Made, moves-to, interval, ExactMoves}
 use Rattle.model.proofs.Numbering.{span-within}
 use Rattle.model.proofs.Written.{always-written}
 use Rattle.model.proofs.Demand3.{demand3}
@@ -23,13 +23,13 @@ abbrev of-both : Verb → Side → Action
 of-both v s = record { verb = v; side = s; name = 0; p = 0; q = 2 }
 
 abbrev fill : Pass
-fill = record { declarations = record { mode = W; side = card; array = 0 } ∷ []; body = act 3 (of-both write card) Block.done }
+fill = record { declarations = record { mode = W; side = card; array = 0 } ∷ []; body = act 0 (of-both write card) Block.done }
 
-abbrev look : Pass
-look = record { declarations = record { mode = R; side = host; array = 0 } ∷ []; body = act 5 (of-both read host) Block.done }
+abbrev amend : Pass
+amend = record { declarations = record { mode = RW; side = host; array = 0 } ∷ []; body = act 0 (of-both read host) (act 0 (of-both write host) Block.done) }
 
 abbrev plan : DeclaredPlan
-plan = record { layout = record { lengths = 2 ∷ [] }; body0 = act 0 1 (act 1 2 Block.done); passes = fill ∷ (look ∷ []) }
+plan = record { layout = record { lengths = 2 ∷ [] }; body0 = act 0 1 (act 0 2 Block.done); passes = fill ∷ (amend ∷ []) }
 
 both : (c : ℕ) → c < 2 → covers (plan .layout) (of-both write card) c ≡ true
 unfolding covers sum-before
@@ -40,34 +40,47 @@ both (suc (suc c)) h = absurd (omega arith)
 fill-rules : Rules (plan .layout) fill
 fill-rules = record { once = refl; permitted = refl; written = (λ m c i. always-written (plan .layout) card c (fill .body) .0 (rw (both c (span-within (plan .layout) 0 c i))), tt) }
 
-look-rules : Rules (plan .layout) look
-look-rules = record { once = refl; permitted = refl; written = (λ m. absurd (true≢false (cc)), tt) }
+amend-rules : Rules (plan .layout) amend
+amend-rules = record { once = refl; permitted = refl; written = (λ m. absurd (true≢false (cc)), tt) }
 
 pub accepted : Accepts plan
-accepted = (fill-rules, (look-rules, tt))
+accepted = (fill-rules, (amend-rules, tt))
 
 -- the configuration after one more step
 abbrev after : Config → Config
-after k = go (step (plan .layout) k)
+after k = go (step proper (plan .layout) k)
   where
     go : Step → Config
     go (next k′) = k′
     go (ends e) = k
 
 abbrev last : Config
-last = after (after (after (after (begin (expansion plan) []))))
+last = after (after (after (after (after (after (begin (expansion plan) []))))))
 
 pub ends-finished : Ends (expansion plan) [] last finished
 unfolding covers sum-before
-ends-finished = record { run = onward (onward (onward (onward here refl) refl) refl) refl; last = refl }
+ends-finished = record { run = onward (onward (onward (onward (onward (onward here refl) refl) refl) refl) refl) refl; last = refl }
 
-abbrev did : Action → Deed → Event
-did x d = record { action = x; deed = d }
+abbrev did : ℕ → Action → Deed → Event
+did r x d = record { number = r; action = x; deed = d }
 
--- its need copied
-pub history : last .history ≡ did (of-both read host) (gets host) ∷ (did (whole-of need host 0) (moves card host) ∷ (did (of-both write card) (puts card) ∷ (did (whole-of mark card 0) nothing ∷ [])))
+-- the declarations as made: the need of the RW copied
+abbrev filled : Made
+filled = record { declaration = record { mode = W; side = card; array = 0 }; events = did 0 (whole-of mark card 0) nothing ∷ [] }
+
+abbrev amended : Made
+amended = record { declaration = record { mode = RW; side = host; array = 0 }; events = did 2 (whole-of need host 0) (moves card host) ∷ (did 3 (whole-of mark host 0) nothing ∷ []) }
+
+pub history : reverse (last .history) ≡ filled .events ++ (did 1 (of-both write card) (puts card) ∷ (amended .events ++ (did 4 (of-both read host) (gets host) ∷ (did 5 (of-both write host) (puts host) ∷ []))))
 unfolding covers sum-before
 history = refl
 
-pub moved : Moves plan [] last
+-- the interval from the start, which the W closes, has no move; the one from the W, which the RW closes, has one, to the host
+pub intervals : (interval 0 (filled ∷ (amended ∷ [])) ≡ filled ∷ []) × (interval 0 (amended ∷ []) ≡ amended ∷ [])
+intervals = (refl, refl)
+
+pub one-move : (moves-to 0 card (filled ∷ []) ≡ 0) × (moves-to 0 host (amended ∷ []) ≡ 1) × (moves-to 0 card (amended ∷ []) ≡ 0)
+one-move = (refl, refl, refl)
+
+pub moved : ExactMoves plan [] last
 moved = demand3 plan accepted [] .moves-exactly last ends-finished

@@ -6,34 +6,27 @@ use mathlib.Core.Bool.{Bool, true≢false}
 use mathlib.Core.Option.{Option, none, some}
 use Rattle.model.specs.Sides.{Layout}
 use Rattle.model.specs.Records.{Action}
-use Rattle.model.specs.Effects.{State, start, deed, effect}
+use Rattle.model.specs.Effects.{State, start, effect}
 use Rattle.model.specs.Blocks.{Block, done, act, branch, loop, Plan}
-use Rattle.model.specs.Runs.{Event, Config, next, carry, stop-or, lowest-unmet, step, here, onward, Run}
-use Rattle.model.specs.Check.{Carried}
+use Rattle.model.specs.Runs.{Event, Config, next, stop-or, lowest-unmet, step, here, onward, Run, carried-on, proper}
 use Rattle.model.specs.Claims.{ClaimCarried}
-
-abbrev pub config : Block Action → List Bool → State → List Event → Config
-config b cs σ l = record { left = b; choices = cs; state = σ; history = l }
-
--- a record as it is executed
-abbrev pub event : Action → State → Event
-event x σ = record { action = x; deed = deed x σ }
+pub use Rattle.model.specs.Inner.Events.{config, event}
 
 pub next-same : (k k′ : Config) → next k ≡ next k′ → k ≡ k′
 next-same k k′ e = cc
 
 module _ (layout : Layout) where
-  pub next-carry : (b : Block Action) (cs : List Bool) (σ : State) (l : List Event) (k : Config) → step layout (config b cs σ l) ≡ next k → carry layout (config b cs σ l) ≡ next k
+  pub next-carry : (b : Block Action) (cs : List Bool) (σ : State) (l : List Event) (k : Config) → step proper layout (config b cs σ l) ≡ next k → step carried-on layout (config b cs σ l) ≡ next k
   next-carry done cs σ l k e = e
   next-carry (act r x b) cs σ l k e = go (lowest-unmet layout x σ) e
     where
-      go : (o : Option ℕ) → stop-or r o (carry layout (config (act r x b) cs σ l)) ≡ next k → carry layout (config (act r x b) cs σ l) ≡ next k
+      go : (o : Option ℕ) → stop-or r o (step carried-on layout (config (act r x b) cs σ l)) ≡ next k → step carried-on layout (config (act r x b) cs σ l) ≡ next k
       go none f = f
       go (some c) f = cc
   next-carry (branch r x y b) cs σ l k e = e
   next-carry (loop r x b) cs σ l k e = e
 
-pub carried : (plan : Plan) {cs : List Bool} {k : Config} → Run plan cs k → Carried plan cs k
+pub carried : (plan : Plan) {cs : List Bool} {k : Config} → Run proper plan cs k → Run carried-on plan cs k
 carried plan here = here
 carried plan (onward {k = k} {k′} h e) = onward (carried plan h) (next-carry (plan .layout) (k .left) (k .choices) (k .state) (k .history) k′ e)
 
@@ -42,15 +35,15 @@ proper-carried plan cs k = carried plan
 
 -- what holds at the start and is kept by every executed record
 module _ (plan : Plan) (P : State → List Event → Type 0) (first : P (start (plan .layout)) [])
-    (keeps : (x : Action) (σ : State) (l : List Event) → P σ l → P (effect (plan .layout) x σ) (event x σ ∷ l)) where
-  kept-on : (b : Block Action) (cs : List Bool) (σ : State) (l : List Event) (k : Config) → carry (plan .layout) (config b cs σ l) ≡ next k → P σ l → P (k .state) (k .history)
+    (keeps : (r : ℕ) (x : Action) (σ : State) (l : List Event) → P σ l → P (effect (plan .layout) x σ) (event r x σ ∷ l)) where
+  kept-on : (b : Block Action) (cs : List Bool) (σ : State) (l : List Event) (k : Config) → step carried-on (plan .layout) (config b cs σ l) ≡ next k → P σ l → P (k .state) (k .history)
   kept-on done cs σ l k e p = absurd (true≢false (cc))
-  kept-on (act r x b) cs σ l k e p = subst (λ (m : Config). P (m .state) (m .history)) (next-same _ k e) (keeps x σ l p)
+  kept-on (act r x b) cs σ l k e p = subst (λ (m : Config). P (m .state) (m .history)) (next-same _ k e) (keeps r x σ l p)
   kept-on (branch r x y b) [] σ l k e p = absurd (true≢false (cc))
   kept-on (branch r x y b) (c ∷ cs) σ l k e p = subst (λ (m : Config). P (m .state) (m .history)) (next-same _ k e) p
   kept-on (loop r x b) [] σ l k e p = absurd (true≢false (cc))
   kept-on (loop r x b) (c ∷ cs) σ l k e p = subst (λ (m : Config). P (m .state) (m .history)) (next-same _ k e) p
 
-  pub along : {cs : List Bool} {k : Config} → Carried plan cs k → P (k .state) (k .history)
+  pub along : {cs : List Bool} {k : Config} → Run carried-on plan cs k → P (k .state) (k .history)
   along here = first
   along (onward {k = k} {k′} h e) = kept-on (k .left) (k .choices) (k .state) (k .history) k′ e (along h)

@@ -13,22 +13,13 @@ use Rattle.model.specs.Sides.{Side, host, card, same-side, Stamp, never,
 use Rattle.model.specs.Records.{Verb, read, write, copy, need, mark, same-verb, Action, covers}
 use Rattle.model.specs.Effects.{Stamps, Flags, State, start, Deed, nothing, gets, puts, moves, comes-to, does, counted, deed, effect}
 use Rattle.model.specs.Blocks.{Plan}
-use Rattle.model.specs.Runs.{Event, Config, tally}
-use Rattle.model.specs.Check.{Carried}
+use Rattle.model.specs.Runs.{Event, Config, tally, carried-on, Run}
 use Rattle.model.specs.Demand.{latest-write}
 use Rattle.model.specs.Claims.{ClaimLatest, ClaimFresh}
 use Rattle.model.proofs.Booleans.{false-of}
 use Rattle.model.proofs.Needs.{flag-set, flag-clear}
-use Rattle.model.proofs.Runs.{event, along}
-
--- a stamp that is not ahead of w writes
-abbrev pub Old : ℕ → Stamp → Type 0
-Old w never = Unit {0}
-Old w (at j) = j ≤ w
-
-pub record Past (σ : State) : Type 0 where
-  pub held : (s : Side) (c : ℕ) → Old (σ .writes) (σ .cell c .held s)
-  pub latest : (c : ℕ) → σ .cell c .latest ≤ σ .writes
+use Rattle.model.proofs.Runs.{along}
+pub use Rattle.model.specs.Inner.Events.{event, Old, Past}
 
 old-suc : (w : ℕ) (x : Stamp) → Old w x → Old (suc w) x
 old-suc w never h = tt
@@ -113,8 +104,8 @@ past-effect layout x σ p = go (write-or-quiet x σ)
     go (inr (e, q)) = from-cells (effect layout x σ) (λ c. rw e (old-cell (σ .writes) (covers layout x c) _ _ (old-quiet (σ .writes) _ (deed x σ) (σ .cell c) q (cell c)) (cell c)))
 
 -- at every moment of a run, and of a carried-on run
-pub past : (plan : Plan) {cs : List Bool} {k : Config} → Carried plan cs k → Past (k .state)
-past plan h = along plan (λ σ l. Past σ) (past-start (plan .layout)) (λ x σ l. past-effect (plan .layout) x σ) h
+pub past : (plan : Plan) {cs : List Bool} {k : Config} → Run carried-on plan cs k → Past (k .state)
+past plan h = along plan (λ σ l. Past σ) (past-start (plan .layout)) (λ r x σ l. past-effect (plan .layout) x σ) h
 
 pub fresh : ClaimFresh
 fresh plan cs k h s c e = go (k .state .cell c .held s) (past plan h .held s c) e
@@ -149,10 +140,10 @@ cond-same : (b : Bool) (j : ℕ) → cond b j j ≡ j
 cond-same true j = refl
 cond-same false j = refl
 
-tracked-effect : (layout : Layout) (x : Action) (σ : State) (l : List Event) → Tracked layout σ l → Tracked layout (effect layout x σ) (event x σ ∷ l)
-tracked-effect layout x σ l t = go (write-or-quiet x σ)
+tracked-effect : (layout : Layout) (r : ℕ) (x : Action) (σ : State) (l : List Event) → Tracked layout σ l → Tracked layout (effect layout x σ) (event r x σ ∷ l)
+tracked-effect layout r x σ l t = go (write-or-quiet x σ)
   where
-    go : (x .verb ≡ write) ⊎ ((same-verb (x .verb) write ≡ false) × Quiet (deed x σ)) → Tracked layout (effect layout x σ) (event x σ ∷ l)
+    go : (x .verb ≡ write) ⊎ ((same-verb (x .verb) write ≡ false) × Quiet (deed x σ)) → Tracked layout (effect layout x σ) (event r x σ ∷ l)
     go (inl q) = record {
       writes = rw q (ap suc (t .writes));
       latest = λ c. rw q (cond-latest (covers layout (as-verb write x) c) _ _ ∙ rw (t .writes, t .latest c));
@@ -162,7 +153,7 @@ tracked-effect layout x σ l t = go (write-or-quiet x σ)
       latest = λ c. rw e (cond-latest (covers layout x c) _ _ ∙ (rw (quiet-latest (suc (σ .writes)) (deed x σ) (σ .cell c) q) (cond-same (covers layout x c) _ ∙ t .latest c)));
     }
 
-pub tracked : (plan : Plan) {cs : List Bool} {k : Config} → Carried plan cs k → Tracked (plan .layout) (k .state) (k .history)
+pub tracked : (plan : Plan) {cs : List Bool} {k : Config} → Run carried-on plan cs k → Tracked (plan .layout) (k .state) (k .history)
 tracked plan h = along plan (Tracked (plan .layout)) (record { writes = refl; latest = λ c. refl }) (tracked-effect (plan .layout)) h
 
 pub latest-tracked : ClaimLatest

@@ -3,21 +3,15 @@
 use Prim.Native.Nat.{ℕ, suc}
 use mathlib.Core.Path.{_≡_, refl, ap, sym, _∙_}
 use mathlib.Core.Bool.{Bool, true, false, cond, not, _||_}
-use lib.Dec.{eqb}
 use borrow.Author.Tests.{eq-eqb}
 use Rattle.model.specs.Sides.{Side, host, card, same-side, Stamp, at, equals, Layout}
 use Rattle.model.specs.Records.{Action, covers}
-use Rattle.model.specs.Effects.{Stamps, Flags, State, current, Deed, nothing, gets, puts, moves, comes-to, needs, does, deed, met, effect}
+use Rattle.model.specs.Effects.{Stamps, State, current, Deed, nothing, gets, puts, moves, comes-to, needs, does, deed, met, effect}
 use Rattle.model.specs.Inner.Holders.{array-of}
 use Rattle.model.proofs.Bits.{Bits, equal, equal-true}
 use Rattle.model.proofs.Numbering.{covers-array}
 use Rattle.model.proofs.Stamps.{Past, old-stale}
-
-pub record Status : Type 0 where
-  pub host-current : Bool
-  pub card-current : Bool
-  pub host-flag : Bool
-  pub card-flag : Bool
+pub use Rattle.model.specs.Inner.Statuses.{Status, current-on, flag-on, status, needs-of, makes-of, flags-in, comes-in, own, status-of, met-in, status-after}
 
 -- a status as bits: nothing but the record above and these lines says how many statuses there are
 abbrev pub width : ℕ
@@ -35,31 +29,6 @@ alike u v = equal width (bits u) (bits v)
 
 pub alike-true : (u v : Status) → alike u v ≡ true → u ≡ v
 alike-true u v e = ap status-at (equal-true width (bits u) (bits v) e)
-
-abbrev pub current-on : Status → Side → Bool
-current-on u host = u .host-current
-current-on u card = u .card-current
-
-abbrev pub flag-on : Status → Side → Bool
-flag-on u host = u .host-flag
-flag-on u card = u .card-flag
-
--- the status with these copies current and these flags set
-abbrev pub status : (Side → Bool) → (Side → Bool) → Status
-status f g = record { host-current = f host; card-current = f card; host-flag = g host; card-flag = g card }
-
--- what a deed needs, and makes, of the copies that are current
-abbrev pub needs-of : Deed → (Side → Bool) → Bool
-needs-of nothing v = true
-needs-of (gets s) v = v s
-needs-of (puts s) v = true
-needs-of (moves from to) v = v from
-
-abbrev pub makes-of : Deed → (Side → Bool) → Side → Bool
-makes-of nothing v t = v t
-makes-of (gets s) v t = v t
-makes-of (puts s) v t = same-side t s
-makes-of (moves from to) v t = cond (same-side t to) (v from) (v t)
 
 needs-current : (d : Deed) (u : Stamps) → needs d u ≡ needs-of d (current u)
 needs-current nothing u = refl
@@ -82,71 +51,45 @@ makes-current k (gets s) u new t = refl
 makes-current k (puts s) u new t = put-current (same-side t s) k (u .held t) (new t)
 makes-current k (moves from to) u new t = moved-current (same-side t to) (u .held from) (u .held t) (u .latest)
 
--- what a record comes to, and makes of the flags, by the status of a cell of its array
-abbrev pub flags-in : Status → Flags
-flags-in u = record { flag = flag-on u }
-
-abbrev pub comes-in : Action → Status → Deed × Flags
-comes-in x u = comes-to (x .verb) (x .side) (flags-in u)
-
 module _ (layout : Layout) (c : ℕ) where
-  -- whether array a is the cell's own
-  abbrev pub own : ℕ → Bool
-  own a = eqb (array-of layout c) a
-
-  -- the status of cell c
-  abbrev pub status-of : State → Status
-  status-of σ = status (current (σ .cell c)) (σ .flags (array-of layout c) .flag)
-
-  -- what a record needs of the cell, by its status
-  abbrev pub met-in : Action → Status → Bool
-  met-in x u = not (covers layout x c) || needs-of (comes-in x u .0) (current-on u)
-
-  -- its status after the record
-  abbrev pub status-after : Action → Status → Status
-  status-after x u =
-      status
-      (λ t. cond (covers layout x c) (makes-of (comes-in x u .0) (current-on u) t) (current-on u t))
-      (λ t. cond (own (x .name)) (comes-in x u .1 .flag t) (flag-on u t))
-
-  current-of : (σ : State) (s : Side) → current (σ .cell c) s ≡ current-on (status-of σ) s
+  current-of : (σ : State) (s : Side) → current (σ .cell c) s ≡ current-on (status-of layout c σ) s
   current-of σ host = refl
   current-of σ card = refl
 
-  flag-of : (σ : State) (s : Side) → σ .flags (array-of layout c) .flag s ≡ flag-on (status-of σ) s
+  flag-of : (σ : State) (s : Side) → σ .flags (array-of layout c) .flag s ≡ flag-on (status-of layout c σ) s
   flag-of σ host = refl
   flag-of σ card = refl
 
-  currents-of : (σ : State) → current (σ .cell c) ≡ current-on (status-of σ)
+  currents-of : (σ : State) → current (σ .cell c) ≡ current-on (status-of layout c σ)
   currents-of σ = λ i s. current-of σ s i
 
-  flags-of : (σ : State) → σ .flags (array-of layout c) ≡ flags-in (status-of σ)
+  flags-of : (σ : State) → σ .flags (array-of layout c) ≡ flags-in (status-of layout c σ)
   flags-of σ = λ i. record { flag = λ s. flag-of σ s i }
 
   -- a record that covers the cell looks at the flags of its own array
-  own-deed : (x : Action) (σ : State) → covers layout x c ≡ true → deed x σ ≡ comes-in x (status-of σ) .0
+  own-deed : (x : Action) (σ : State) → covers layout x c ≡ true → deed x σ ≡ comes-in x (status-of layout c σ) .0
   own-deed x σ e =
       ap (λ n. comes-to (x .verb) (x .side) (σ .flags n) .0) (sym (covers-array layout x c e)) ∙ ap (λ f. comes-to (x .verb) (x .side) f .0) (flags-of σ)
 
-  pub met-status : (x : Action) (σ : State) → met layout x σ c ≡ met-in x (status-of σ)
+  pub met-status : (x : Action) (σ : State) → met layout x σ c ≡ met-in layout c x (status-of layout c σ)
   met-status x σ = go (covers layout x c) refl
     where
-      go : (b : Bool) → covers layout x c ≡ b → (not b || needs (deed x σ) (σ .cell c)) ≡ (not b || needs-of (comes-in x (status-of σ) .0) (current-on (status-of σ)))
+      go : (b : Bool) → covers layout x c ≡ b → (not b || needs (deed x σ) (σ .cell c)) ≡ (not b || needs-of (comes-in x (status-of layout c σ) .0) (current-on (status-of layout c σ)))
       go true e = needs-current (deed x σ) (σ .cell c) ∙ (λ i. needs-of (own-deed x σ e i) (currents-of σ i))
       go false e = refl
 
-  pub status-effect : (x : Action) (σ : State) → Past σ → status-of (effect layout x σ) ≡ status-after x (status-of σ)
-  status-effect x σ p = λ i. status (λ t. copies t (covers layout x c) refl i) (λ t. flags t (own (x .name)) i)
+  pub status-effect : (x : Action) (σ : State) → Past σ → status-of layout c (effect layout x σ) ≡ status-after layout c x (status-of layout c σ)
+  status-effect x σ p = λ i. status (λ t. copies t (covers layout x c) refl i) (λ t. flags t (own layout c (x .name)) i)
     where
       new : (t : Side) → equals (σ .cell c .held t) (suc (σ .writes)) ≡ false
       new t = old-stale (σ .writes) (σ .cell c .held t) (p .held t c)
 
       copies : (t : Side) (b : Bool) → covers layout x c ≡ b →
           current (cond b (does (suc (σ .writes)) (deed x σ) (σ .cell c)) (σ .cell c)) t
-          ≡ cond b (makes-of (comes-in x (status-of σ) .0) (current-on (status-of σ)) t) (current-on (status-of σ) t)
+          ≡ cond b (makes-of (comes-in x (status-of layout c σ) .0) (current-on (status-of layout c σ)) t) (current-on (status-of layout c σ) t)
       copies t true e = makes-current (suc (σ .writes)) (deed x σ) (σ .cell c) new t ∙ (λ i. makes-of (own-deed x σ e i) (currents-of σ i) t)
       copies t false e = λ i. current-of σ t i
 
-      flags : (t : Side) (b : Bool) → cond b (comes-to (x .verb) (x .side) (σ .flags (array-of layout c)) .1) (σ .flags (array-of layout c)) .flag t ≡ cond b (comes-in x (status-of σ) .1 .flag t) (flag-on (status-of σ) t)
+      flags : (t : Side) (b : Bool) → cond b (comes-to (x .verb) (x .side) (σ .flags (array-of layout c)) .1) (σ .flags (array-of layout c)) .flag t ≡ cond b (comes-in x (status-of layout c σ) .1 .flag t) (flag-on (status-of layout c σ) t)
       flags t true = λ i. comes-to (x .verb) (x .side) (flags-of σ i) .1 .flag t
       flags t false = λ i. flag-of σ t i

@@ -8,39 +8,21 @@ use Rattle.model.specs.Sides.{Layout, cell-count}
 use Rattle.model.specs.Records.{Action}
 use Rattle.model.specs.Effects.{State, start, met, effect}
 use Rattle.model.specs.Blocks.{Block, done, act, branch, loop, _then_, Plan}
-use Rattle.model.specs.Runs.{Event, Config, next, carry, Reached, here, onward}
-use Rattle.model.specs.Check.{Carried, MayStop}
+use Rattle.model.specs.Runs.{Event, Config, next, Reached, here, onward, carried-on, step, Run}
+use Rattle.model.specs.Check.{MayStop}
 use Rattle.model.proofs.Runs.{config, event, next-same}
 use Rattle.model.proofs.Stamps.{Past, past, past-effect}
+pub use Rattle.model.specs.Inner.Stops.{Star, stay, more, Goes, Stops, StopsAt}
 use Rattle.model.proofs.Status.{Status, status-of, met-in, status-after, met-status, status-effect}
 
--- any number of steps
-pub data Star (R : Status → Status → Type 0) : Status → Status → Type 0 where
-  stay : {u : Status} → Star R u u
-  more : {u w v : Status} → R u w → Star R w v → Star R u v
-
 module _ (layout : Layout) (c : ℕ) where
-  -- cell c can go through the block from status u to status v
-  abbrev pub Goes : Block Action → Status → Status → Type 0
-  Goes done u v = u ≡ v
-  Goes (act k x b) u v = Goes b (status-after layout c x u) v
-  Goes (branch k x y b) u v = (w : Status) × (Goes x u w ⊎ Goes y u w) × Goes b w v
-  Goes (loop k x b) u v = (w : Status) × Star (Goes x) u w × Goes b w v
-
-  -- from status u it can stop at record r of the block
-  abbrev pub Stops : Block Action → Status → ℕ → Type 0
-  Stops done u r = ⊥
-  Stops (act k x b) u r = ((k ≡ r) × (met-in layout c x u ≡ false)) ⊎ Stops b (status-after layout c x u) r
-  Stops (branch k x y b) u r = (Stops x u r ⊎ Stops y u r) ⊎ ((w : Status) × (Goes x u w ⊎ Goes y u w) × Stops b w r)
-  Stops (loop k x b) u r = (w : Status) × Star (Goes x) u w × (Stops x w r ⊎ Stops b w r)
-
   -- every stop of a carried-on run is one of these: from the stop back to the start
   module _ (r : ℕ) where
     -- a stop in x, or after it in b
     abbrev InOrAfter : Block Action → Block Action → Status → Type 0
-    InOrAfter x b u = Stops x u r ⊎ ((w : Status) × Goes x u w × Stops b w r)
+    InOrAfter x b u = Stops layout c x u r ⊎ ((w : Status) × Goes layout c x u w × Stops layout c b w r)
 
-    stops-then : (x b : Block Action) (u : Status) → Stops (x then b) u r → InOrAfter x b u
+    stops-then : (x b : Block Action) (u : Status) → Stops layout c (x then b) u r → InOrAfter x b u
     stops-then done b u s = inr (u, refl, s)
     stops-then (act k y x) b u (inl s) = inl (inl s)
     stops-then (act k y x) b u (inr s) = elim (stops-then x b (status-after layout c y u) s) [ inl t ↦ inl (inr t) | inr t ↦ inr t ]
@@ -51,20 +33,20 @@ module _ (layout : Layout) (c : ℕ) where
       | inr t ↦ elim (stops-then x b (s .0) t) [ inl q ↦ inl (s .0, s .1, inr q) | inr q ↦ inr (q .0, (s .0, s .1, q .1), q .2) ]
     ]
 
-    stops-branch : (k : ℕ) (x y b : Block Action) (d : Bool) (u : Status) → Stops (cond d x y then b) u r → Stops (branch k x y b) u r
+    stops-branch : (k : ℕ) (x y b : Block Action) (d : Bool) (u : Status) → Stops layout c (cond d x y then b) u r → Stops layout c (branch k x y b) u r
     stops-branch k x y b true u s = elim (stops-then x b u s) [ inl t ↦ inl (inl t) | inr t ↦ inr (t .0, inl (t .1), t .2) ]
     stops-branch k x y b false u s = elim (stops-then y b u s) [ inl t ↦ inl (inr t) | inr t ↦ inr (t .0, inr (t .1), t .2) ]
 
-    stops-loop : (k : ℕ) (x b : Block Action) (d : Bool) (u : Status) → Stops (cond d (x then loop k x b) b) u r → Stops (loop k x b) u r
+    stops-loop : (k : ℕ) (x b : Block Action) (d : Bool) (u : Status) → Stops layout c (cond d (x then loop k x b) b) u r → Stops layout c (loop k x b) u r
     stops-loop k x b true u s = elim (stops-then x (loop k x b) u s) [ inl t ↦ (u, stay, inl t) | inr t ↦ (t .2 .0, more (t .1) (t .2 .1), t .2 .2) ]
     stops-loop k x b false u s = (u, stay, inr s)
 
     -- a configuration from which the cell can stop
     abbrev StopsFrom : Config → Type 0
-    StopsFrom k = Stops (k .left) (status-of layout c (k .state)) r
+    StopsFrom k = Stops layout c (k .left) (status-of layout c (k .state)) r
 
     stops-before : (b : Block Action) (cs : List Bool) (σ : State) (l : List Event) (k : Config) → Past σ →
-        carry layout (config b cs σ l) ≡ next k → StopsFrom k → StopsFrom (config b cs σ l)
+        step carried-on layout (config b cs σ l) ≡ next k → StopsFrom k → StopsFrom (config b cs σ l)
     stops-before done cs σ l k p e = absurd (true≢false (cc))
     stops-before (act q x b) cs σ l k p e = rw (← next-same _ k e) (λ s. inr (rw (status-effect layout c x σ p) at s))
     stops-before (branch q x y b) [] σ l k p e = absurd (true≢false (cc))
@@ -78,18 +60,18 @@ module _ (layout : Layout) (c : ℕ) where
     record CanStop (b : Block Action) (σ : State) (l : List Event) : Type 0 where
       choices : List Bool
       last : Config
-      reached : Reached (carry layout) (config b choices σ l) last
+      reached : Reached (step carried-on layout) (config b choices σ l) last
       action : Action
       rest : Block Action
       left : last .left ≡ act r action rest
       unmet : met layout action (last .state) c ≡ false
 
-    reached-before : {k k′ m : Config} → carry layout k ≡ next k′ → Reached (carry layout) k′ m → Reached (carry layout) k m
+    reached-before : {k k′ m : Config} → step carried-on layout k ≡ next k′ → Reached (step carried-on layout) k′ m → Reached (step carried-on layout) k m
     reached-before e here = onward here e
     reached-before e (onward h f) = onward (reached-before e h) f
 
     can-stop-before : {b b′ : Block Action} {σ σ′ : State} {l l′ : List Event} (taken : List Bool → List Bool) →
-        ((cs : List Bool) → carry layout (config b (taken cs) σ l) ≡ next (config b′ cs σ′ l′)) → CanStop b′ σ′ l′ → CanStop b σ l
+        ((cs : List Bool) → step carried-on layout (config b (taken cs) σ l) ≡ next (config b′ cs σ′ l′)) → CanStop b′ σ′ l′ → CanStop b σ l
     can-stop-before taken e m = record {
       choices = taken (m .choices);
       last = m .last;
@@ -106,7 +88,7 @@ module _ (layout : Layout) (c : ℕ) where
 
     from-act : (k : ℕ) (x : Action) (b : Block Action) (u : Status) → From b (status-after layout c x u) → From (act k x b) u
     from-act k x b u f σ l p e = can-stop-before (λ cs. cs) (λ cs. refl)
-        (f (effect layout x σ) (event x σ ∷ l) (past-effect layout x σ p) (status-effect layout c x σ p ∙ ap (status-after layout c x) e))
+        (f (effect layout x σ) (event k x σ ∷ l) (past-effect layout x σ p) (status-effect layout c x σ p ∙ ap (status-after layout c x) e))
 
     from-branch : (k : ℕ) (x y b : Block Action) (d : Bool) (u : Status) → From (cond d x y then b) u → From (branch k x y b) u
     from-branch k x y b d u f σ l p e = can-stop-before (λ cs. d ∷ cs) (λ cs. refl) (f σ l p e)
@@ -114,13 +96,13 @@ module _ (layout : Layout) (c : ℕ) where
     from-loop : (k : ℕ) (x b : Block Action) (d : Bool) (u : Status) → From (cond d (x then loop k x b) b) u → From (loop k x b) u
     from-loop k x b d u f σ l p e = can-stop-before (λ cs. d ∷ cs) (λ cs. refl) (f σ l p e)
 
-    from-star : (k : ℕ) (x b : Block Action) (u v : Status) → ((u v : Status) → Goes x u v → From (loop k x b) v → From (x then loop k x b) u) →
-        Star (Goes x) u v → From (loop k x b) v → From (loop k x b) u
+    from-star : (k : ℕ) (x b : Block Action) (u v : Status) → ((u v : Status) → Goes layout c x u v → From (loop k x b) v → From (x then loop k x b) u) →
+        Star (Goes layout c x) u v → From (loop k x b) v → From (loop k x b) u
     from-star k x b u v one stay f = f
     from-star k x b u v one (more {w = w} g s) f = from-loop k x b true u (one u w g (from-star k x b w v one s f))
 
     -- through x, and then whatever b leads to
-    from-goes : (x b : Block Action) (u v : Status) → Goes x u v → From b v → From (x then b) u
+    from-goes : (x b : Block Action) (u v : Status) → Goes layout c x u v → From b v → From (x then b) u
     from-goes done b u v g f = rw g f
     from-goes (act k y x) b u v g f = from-act k y (x then b) u (from-goes x b (status-after layout c y u) v g f)
     from-goes (branch k y z x) b u v g f = elim (g .1) [
@@ -130,7 +112,7 @@ module _ (layout : Layout) (c : ℕ) where
     from-goes (loop k y x) b u v g f = from-star k y (x then b) u (g .0) (from-goes y (loop k y (x then b))) (g .1)
         (from-loop k y (x then b) false (g .0) (from-goes x b (g .0) v (g .2) f))
 
-    from-stops : (x b : Block Action) (u : Status) → Stops x u r → From (x then b) u
+    from-stops : (x b : Block Action) (u : Status) → Stops layout c x u r → From (x then b) u
     from-stops done b u s = absurd s
     from-stops (act k y x) b u (inl s) = λ σ l p e. record {
       choices = [];
@@ -160,18 +142,14 @@ then-done (branch k y z x) = ap (branch k y z) (then-done x)
 then-done (loop k y x) = ap (loop k y) (then-done x)
 
 module _ (plan : Plan) (r c : ℕ) where
-  -- from the plan's start the cell can stop at record r
-  abbrev pub StopsAt : Type 0
-  StopsAt = Stops (plan .layout) c (plan .body) (status-of (plan .layout) c (start (plan .layout))) r
-
-  stops-begin : {cs : List Bool} {k : Config} → Carried plan cs k → StopsFrom (plan .layout) c r k → StopsAt
+  stops-begin : {cs : List Bool} {k : Config} → Run carried-on plan cs k → StopsFrom (plan .layout) c r k → StopsAt plan r c
   stops-begin here s = s
   stops-begin (onward {k = k} {k′} h e) s = stops-begin h (stops-before (plan .layout) c r (k .left) (k .choices) (k .state) (k .history) k′ (past plan h) e s)
 
-  pub sound : MayStop plan r c → StopsAt
-  sound m = stops-begin (m .carried) (rw (m .left) (inl (refl, sym (met-status (plan .layout) c (m .action) (m .config .state)) ∙ m .unmet)))
+  pub sound : MayStop plan r c → StopsAt plan r c
+  sound m = stops-begin (m .run) (rw (m .left) (inl (refl, sym (met-status (plan .layout) c (m .action) (m .config .state)) ∙ m .unmet)))
 
-  pub complete : c < cell-count (plan .layout) → StopsAt → MayStop plan r c
+  pub complete : c < cell-count (plan .layout) → StopsAt plan r c → MayStop plan r c
   complete h s =
       let m : CanStop (plan .layout) c r (plan .body) (start (plan .layout)) [] =
       rw then-done at (from-stops (plan .layout) c r (plan .body) done _ s (start (plan .layout)) [] (past plan {cs = []} here) refl) in
@@ -179,7 +157,7 @@ module _ (plan : Plan) (r c : ℕ) where
         cell = h;
         choices = m .choices;
         config = m .last;
-        carried = m .reached;
+        run = m .reached;
         action = m .action;
         rest = m .rest;
         left = m .left;

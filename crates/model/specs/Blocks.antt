@@ -3,8 +3,8 @@ use Prim.Native.Nat.{ℕ, suc, _+_}
 use Rattle.model.specs.Sides.{Layout}
 use Rattle.model.specs.Records.{Action}
 
--- what is left to do: a record with its number, its arms if it has some, and the rest. The records other than branches and loops are actions in a plain
--- plan and in a pass, calls in body 0
+-- what is left to do: a record with its number, its arms if it has some, and the rest. The records other than branches and loops are
+-- actions in a plain plan and in a pass, calls in body 0
 pub data Block (A : Type 0) : Type 0 where
   done : Block A
   act : ℕ → A → Block A → Block A
@@ -33,6 +33,11 @@ module _ {A : Type 0} where
   numbered r (act _ x b) = act r x (numbered (suc r) b)
   numbered r (branch _ x y b) = branch r (numbered (suc r) x) (numbered (suc r + size x) y) (numbered (suc r + size x + size y) b)
   numbered r (loop _ x b) = loop r (numbered (suc r) x) (numbered (suc r + size x) b)
+
+-- a record and then the rest; the record gets its number when all are numbered
+infixr 60 _⨾_
+abbrev pub _⨾_ : Action → Block Action → Block Action
+x ⨾ b = act 0 x b
 
 -- a plain plan: its arrays and its body
 pub record Plan : Type 0 where

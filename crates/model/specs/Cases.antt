@@ -1,4 +1,5 @@
--- The twelve cases (document 01, 'Twelve cases, one array of one cell unless said'), in one table, and the plan of 'Checkers that would nearly do'.
+-- The twelve cases (document 01, 'Twelve cases, one array of one cell unless said'), in one table, and the plan of 'Checkers that would
+-- nearly do'.
 use Prim.Native.Nat.{ℕ}
 use mathlib.Core.Bool.{Bool, true}
 use mathlib.Core.List.{List, [], _∷_}
@@ -7,24 +8,19 @@ use Rattle.model.specs.declared.Verdict.the-variants.{Accepted}
 use Rattle.model.specs.Lists.{All}
 use Rattle.model.specs.Sides.{Side, host, card}
 use Rattle.model.specs.Records.{Verb, read, write, copy, need, mark, Action}
-use Rattle.model.specs.Blocks.{Block, done, act, branch, loop, numbered, Plan}
+use Rattle.model.specs.Blocks.{Block, done, branch, loop, numbered, _⨾_, Plan}
 use Rattle.model.specs.Runs.{Config, stopped, Ends}
 use Rattle.model.specs.Verdicts.{stop}
 use Rattle.model.specs.Check.{Answers}
 
--- a row: the cells of the one array, the body, the check's answer
+-- a row: a plan and the check's answer
 pub record Case : Type 0 where
-  pub cells : ℕ
-  pub body : Block Action
+  pub plan : Plan
   pub answer : Verdict
 
--- its plan, the records numbered from 0
-abbrev pub plan-of : Case → Plan
-plan-of row = record { layout = record { lengths = row .cells ∷ [] }; body = numbered 0 (row .body) }
-
--- a row from its three parts
+-- a row of one array of n cells; the records of its body are numbered from 0
 abbrev pub case : ℕ → Block Action → Verdict → Case
-case n b v = record { cells = n; body = b; answer = v }
+case n b v = record { plan = record { layout = record { lengths = n ∷ [] }; body = numbered 0 b }; answer = v }
 
 -- a record of cell 0 of array 0, and of its cells 0 and 1
 infix 70 _on_ _on-both_
@@ -33,11 +29,6 @@ v on s = record { verb = v; side = s; name = 0; p = 0; q = 1 }
 
 abbrev pub _on-both_ : Verb → Side → Action
 v on-both s = record { verb = v; side = s; name = 0; p = 0; q = 2 }
-
--- one record and then the rest
-infixr 60 _⨾_
-abbrev pub _⨾_ : Action → Block Action → Block Action
-x ⨾ b = act 0 x b
 
 -- "10 loop (read host, read card, write card): a run proper that takes a turn stops first at 2, the answer is 1."
 abbrev pub case10 : Case
@@ -74,7 +65,7 @@ twelve =
 
 -- of case 10: "a run proper that takes a turn stops first at 2"
 abbrev pub StopsFirstAt2 : Type 0
-StopsFirstAt2 = (cs : List Bool) → (k : Config) × Ends (plan-of case10) (true ∷ cs) k (stopped 2 0)
+StopsFirstAt2 = (cs : List Bool) → (k : Config) × Ends (case10 .plan) (true ∷ cs) k (stopped 2 0)
 
 -- 'Checkers that would nearly do': "copy to card, write host, need card, read card is accepted."
 abbrev pub nearly : List Case
@@ -82,4 +73,4 @@ nearly = case 1 (copy on card ⨾ write on host ⨾ need on card ⨾ read on car
 
 -- every row's answer is the check's
 abbrev pub AllAnswer : List Case → Type 0
-AllAnswer rows = All (λ (row : Case). Answers (plan-of row) (row .answer)) rows
+AllAnswer rows = All (λ (row : Case). Answers (row .plan) (row .answer)) rows

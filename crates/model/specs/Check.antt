@@ -1,4 +1,4 @@
--- The carried-on run, and what the check answers (document 01, 'Sides, cells, stamps').
+-- What the check answers (document 01, 'Sides, cells, stamps').
 use Prim.Native.Nat.{ℕ, _≤_, _<_}
 use mathlib.Core.Path.{_≡_}
 use mathlib.Core.List.{List}
@@ -9,18 +9,14 @@ use Rattle.model.specs.Sides.{cell-count}
 use Rattle.model.specs.Records.{Action}
 use Rattle.model.specs.Effects.{met}
 use Rattle.model.specs.Blocks.{Block, act, Plan}
-use Rattle.model.specs.Runs.{Config, carry, begin, Reached, Ends, stopped}
-
--- "For the check's answer a run is carried on: an unmet record .. acts all the same"
-abbrev pub Carried : Plan → List Bool → Config → Type 0
-Carried plan cs k = Reached (carry (plan .layout)) (begin plan cs) k
+use Rattle.model.specs.Runs.{Config, carried-on, Run}
 
 -- "an unmet record counts as stopping at each unmet cell": some carried-on run stops at record r in cell c
 pub record MayStop (plan : Plan) (r c : ℕ) : Type 0 where
   pub cell : c < cell-count (plan .layout)
   pub choices : List Bool
   pub config : Config
-  pub carried : Carried plan choices config
+  pub run : Run carried-on plan choices config
   pub action : Action
   pub rest : Block Action
   pub left : config .left ≡ act r action rest
@@ -34,11 +30,3 @@ Answers plan (Stopped r c) =
     × ((r′ c′ : ℕ) → MayStop plan r′ c′ → r .0 ≤ r′)
     × ((c′ : ℕ) → MayStop plan (r .0) c′ → c .0 ≤ c′)
 Answers plan (Refused number place) = ⊥
-
--- some run of the plan gets stuck
-pub record Stuck (plan : Plan) : Type 0 where
-  pub choices : List Bool
-  pub config : Config
-  pub number : ℕ
-  pub cell : ℕ
-  pub ends : Ends plan choices config (stopped number cell)

@@ -10,19 +10,21 @@ use Rattle.model.specs.Lists.{any}
 use Rattle.model.specs.Sides.{Side, at, Layout, cell-count, span-of, in-span}
 use Rattle.model.specs.Records.{whole, Action, covers, cover-count}
 use Rattle.model.specs.Blocks.{Block, Plan}
-use Rattle.model.specs.Runs.{Config, Ending, finished, Run, Ends, tally}
-use Rattle.model.specs.Check.{Carried, Answers, Stuck}
+use Rattle.model.specs.Runs.{Config, Ending, finished, stopped, proper, carried-on, Run, Ends, tally}
+use Rattle.model.specs.Check.{Answers}
 use Rattle.model.specs.Judging.{DeclaredPlan, Way, Itself, writes-cell, always-writes, Accepts}
 use Rattle.model.specs.Expanding.{expansion}
-use Rattle.model.specs.Demand.{latest-write, moved-cells, Moves, Demand3}
+use Rattle.model.specs.Demand.{latest-write, events-of, ExactMoves, Demand3}
 use Rattle.model.specs.Cases.{twelve, AllAnswer, StopsFirstAt2, nearly}
 
--- CLAIM (proofs/Numbering, `one-array`): "Cells are numbered from 0 through all arrays in order": each cell is in one array, and in one only
+-- CLAIM (proofs/Numbering, `one-array`): "Cells are numbered from 0 through all arrays in order": each cell is in one array, and in one
+-- only
 abbrev pub ClaimCells : Type 0
 ClaimCells = (layout : Layout) (c : ℕ) → c < cell-count layout →
     (a : ℕ) × (in-span (span-of layout a) c ≡ true) × ((b : ℕ) → in-span (span-of layout b) c ≡ true → b ≡ a)
 
--- CLAIM (proofs/Numbering, `these-cells`): "cells P to Q − 1 of the array, P < Q ≤ its length": a record that names cells covers these and no others
+-- CLAIM (proofs/Numbering, `these-cells`): "cells P to Q − 1 of the array, P < Q ≤ its length": a record that names cells covers these and
+-- no others
 abbrev pub ClaimCovers : Type 0
 ClaimCovers = (layout : Layout) (x : Action) →
     let these = span-of layout (x .name) in
@@ -31,15 +33,17 @@ ClaimCovers = (layout : Layout) (x : Action) →
 
 -- CLAIM (proofs/Stamps, `latest-tracked`): in every carried-on run a cell's latest stamp is that of its latest write
 abbrev pub ClaimLatest : Type 0
-ClaimLatest = (plan : Plan) (cs : List Bool) (k : Config) → Carried plan cs k → (c : ℕ) → k .state .cell c .latest ≡ latest-write (plan .layout) (k .history) c
+ClaimLatest = (plan : Plan) (cs : List Bool) (k : Config) → Run carried-on plan cs k →
+    (c : ℕ) → k .state .cell c .latest ≡ latest-write (plan .layout) (k .history) c
 
 -- CLAIM (proofs/Stamps, `fresh`): and no copy has the stamp of the next write
 abbrev pub ClaimFresh : Type 0
-ClaimFresh = (plan : Plan) (cs : List Bool) (k : Config) → Carried plan cs k → (s : Side) (c : ℕ) → k .state .cell c .held s ≡ at (suc (k .state .writes)) → ⊥
+ClaimFresh = (plan : Plan) (cs : List Bool) (k : Config) → Run carried-on plan cs k →
+    (s : Side) (c : ℕ) → k .state .cell c .held s ≡ at (suc (k .state .writes)) → ⊥
 
 -- CLAIM (proofs/Runs, `proper-carried`): what a run comes to, the carried-on run comes to
 abbrev pub ClaimCarried : Type 0
-ClaimCarried = (plan : Plan) (cs : List Bool) (k : Config) → Run plan cs k → Carried plan cs k
+ClaimCarried = (plan : Plan) (cs : List Bool) (k : Config) → Run proper plan cs k → Run carried-on plan cs k
 
 -- CLAIM (proofs/Endings, `ends-in-one-way`): every run ends, in one way
 abbrev pub ClaimEnding : Type 0
@@ -52,9 +56,10 @@ ClaimAnswer = (plan : Plan) (v w : Verdict) → Answers plan v → Answers plan 
 
 -- CLAIM (proofs/Stuck, `accepted-iff`): a plan is accepted exactly if no run of it gets stuck
 abbrev pub ClaimAccepted : Type 0
-ClaimAccepted = (plan : Plan) → Answers plan Accepted ↔ (Stuck plan → ⊥)
+ClaimAccepted = (plan : Plan) → Answers plan Accepted ↔ ((cs : List Bool) (k : Config) (r c : ℕ) → Ends plan cs k (stopped r c) → ⊥)
 
--- CLAIM (proofs/Cases, `cases`): the twelve cases have these answers, case 10 has its run proper, and the plan of 'Checkers that would nearly do' is accepted
+-- CLAIM (proofs/Cases, `cases`): the twelve cases have these answers, case 10 has its run proper, and the plan of 'Checkers that would
+-- nearly do' is accepted
 abbrev pub ClaimCases : Type 0
 ClaimCases = AllAnswer twelve × StopsFirstAt2 × AllAnswer nearly
 
@@ -68,7 +73,7 @@ ClaimWritten = (layout : Layout) (s : Side) (c : ℕ) (b : Block Action) →
 abbrev pub Claim3 : Type 0
 Claim3 = (plan : DeclaredPlan) → Accepts plan → (cs : List Bool) → Demand3 plan cs
 
--- CLAIM (proofs/Demand3, `moves-add`): the cells moved by a finished run are those that the moves of its arrays come to
+-- CLAIM (proofs/Demand3, `moves-add`): the cells moved by a finished run are those of the needs of its declarations
 abbrev pub ClaimMoved : Type 0
 ClaimMoved = (plan : DeclaredPlan) → Accepts plan → (cs : List Bool) (k : Config) → Ends (expansion plan) cs k finished →
-    (m : Moves plan cs k) × (tally (plan .layout) (k .history) .moved ≡ moved-cells (plan .layout) (m .made))
+    (m : ExactMoves plan cs k) × (tally (plan .layout) (k .history) .moved ≡ tally (plan .layout) (events-of (m .made)) .moved)

@@ -25,7 +25,7 @@ pub record State : Type 0 where
 abbrev pub current : Stamps → Side → Bool
 current u s = equals (u .held s) (u .latest)
 
--- "At the start latest and host are 0 and the card holds never"; the flags are "at the start set for the host only"
+-- "At the start latest and host are 0 and the card holds" never; the flags are "at the start set for the host only"
 abbrev pub start : Layout → State
 start layout = record {
   cell = λ c. record { held = λ s. cond (same-side s host) (at 0) never; latest = 0 };
@@ -33,7 +33,8 @@ start layout = record {
   writes = 0;
 }
 
--- what a record comes to in each cell that it covers: nothing; it gets the copy on a side; it puts a stamp there; it moves the copy from a side to a side
+-- what a record comes to in each cell that it covers: nothing; it gets the copy on a side; it puts a stamp there; it moves the copy from a
+-- side to a side
 pub data Deed : Type 0 where
   nothing : Deed
   gets : Side → Deed

@@ -1,8 +1,9 @@
 -- Declared plans, and the rules that the judge holds a pass to (document 01, 'The plan file' and 'Judging and expanding').
-use Prim.Native.Nat.{ℕ, zero, suc}
+use Prim.Native.Nat.{ℕ, zero, suc, _-_}
 use mathlib.Core.Path.{_≡_}
 use mathlib.Core.List.{List, [], _∷_, _++_}
 use mathlib.Core.Bool.{Bool, true, false, cond, not, _&&_, _||_}
+use lib.ListN.{getD}
 use lib.Dec.{eqb}
 use Rattle.model.specs.Lists.{any, All}
 use Rattle.model.specs.Sides.{Side, same-side, Layout, span-of, in-span}
@@ -36,22 +37,16 @@ pub record Pass : Type 0 where
   pub declarations : List Declaration
   pub body : Block Action
 
--- "Body 0 of a declared plan has no declarations and holds kinds 6, 7, 8": a block of calls, by the number of the body called; and the bodies from 1 on
+-- "Body 0 of a declared plan has no declarations and holds kinds 6, 7, 8": a block of calls, by the number of the body called; and the
+-- bodies from 1 on
 pub record DeclaredPlan : Type 0 where
   pub layout : Layout
   pub body0 : Block ℕ
   pub passes : List Pass
 
--- a pass of no records
-abbrev pub no-pass : Pass
-no-pass = record { declarations = []; body = Block.done }
-
 -- "8 call: P is a body, 1 to the last": the pass that body b is; one of no records where there is none, which number 8 refuses
 abbrev pub pass-of : List Pass → ℕ → Pass
-pass-of [] b = no-pass
-pass-of (p ∷ ps) zero = no-pass
-pass-of (p ∷ ps) (suc zero) = p
-pass-of (p ∷ ps) (suc (suc b)) = pass-of ps (suc b)
+pass-of passes b = getD passes (b - 1) (record { declarations = []; body = Block.done })
 
 -- "In a pass each array is declared at most once."
 abbrev pub declared-once : List Declaration → Bool
@@ -67,22 +62,20 @@ allowed-by copy m = false
 allowed-by need m = false
 allowed-by mark m = false
 
--- whether the declarations have array a on side s, with such a mode
-abbrev pub declares : (Mode → Bool) → Side → ℕ → List Declaration → Bool
-declares fits s a ds = any (λ (d : Declaration). fits (d .mode) && (same-side (d .side) s && eqb (d .array) a)) ds
-
 -- whether the declarations allow a record
 abbrev pub permits : List Declaration → Action → Bool
-permits ds x = declares (allowed-by (x .verb)) (x .side) (x .name) ds
+permits ds x =
+    any (λ (d : Declaration). allowed-by (x .verb) (d .mode) && (same-side (d .side) (x .side) && eqb (d .array) (x .name))) ds
 
 -- whether every record of a block, those of its arms included, passes the test
-abbrev pub every : (Action → Bool) → Block Action → Bool
-every f Block.done = true
-every f (Block.act r x b) = f x && every f b
-every f (Block.branch r x y b) = every f x && (every f y && every f b)
-every f (Block.loop r x b) = every f x && every f b
+abbrev pub every-record : (Action → Bool) → Block Action → Bool
+every-record f Block.done = true
+every-record f (Block.act r x b) = f x && every-record f b
+every-record f (Block.branch r x y b) = every-record f x && (every-record f y && every-record f b)
+every-record f (Block.loop r x b) = every-record f x && every-record f b
 
--- one way through a block: the choices before it, those left after it, and what its records come to, in order. `Leaf` says the same of one record
+-- one way through a block: the choices before it, those left after it, and what its records come to, in order. `Leaf` says the same of one
+-- record
 pub data Way {A B : Type 0} (Leaf : A → List Bool → List Bool → List B → Type 0) : Block A → List Bool → List Bool → List B → Type 0 where
   at-end : {cs : List Bool} → Way Leaf Block.done cs cs []
   passing : {r : ℕ} {x : A} {b : Block A} {cs ds es : List Bool} {v w : List B} →
@@ -107,15 +100,15 @@ Written layout b d =
     (c : ℕ) → in-span (span-of layout (d .array)) c ≡ true →
     (cs ds : List Bool) (w : List Action) → Way Itself b cs ds w → any (writes-cell layout (d .side) c) w ≡ true
 
--- its contrary: some way through the pass leaves a cell of the array unwritten on that side
-pub record Leaves (layout : Layout) (b : Block Action) (d : Declaration) : Type 0 where
-  pub cell : ℕ
-  pub inside : in-span (span-of layout (d .array)) cell ≡ true
-  pub choices : List Bool
-  pub unused : List Bool
-  pub records : List Action
-  pub way : Way Itself b choices unused records
-  pub unwritten : any (writes-cell layout (d .side) cell) records ≡ false
+-- the rules for a pass: "declared at most once"; "A read needs R or RW .. Kinds 3, 4, 5 are barred"; "Where W is declared, every way .."
+pub record Rules (layout : Layout) (p : Pass) : Type 0 where
+  pub once : declared-once (p .declarations) ≡ true
+  pub permitted : every-record (permits (p .declarations)) (p .body) ≡ true
+  pub written : All (λ (d : Declaration). d .mode ≡ W → Written layout (p .body) d) (p .declarations)
+
+-- "Accepted is the judge's answer, given exactly where none of its numbers holds"; "Passes that nobody calls are judged too."
+abbrev pub Accepts : DeclaredPlan → Type 0
+Accepts plan = All (Rules (plan .layout)) (plan .passes)
 
 -- `Written` of one cell, as a test that computes
 abbrev pub always-writes : Layout → Side → ℕ → Block Action → Bool
@@ -124,12 +117,7 @@ always-writes layout s c (Block.act r x b) = writes-cell layout s c x || always-
 always-writes layout s c (Block.branch r x y b) = (always-writes layout s c x && always-writes layout s c y) || always-writes layout s c b
 always-writes layout s c (Block.loop r x b) = always-writes layout s c b
 
--- the rules for a pass: "declared at most once", "a read needs .. a write .. barred", "Where W is declared, every way .."
-pub record Rules (layout : Layout) (p : Pass) : Type 0 where
-  pub once : declared-once (p .declarations) ≡ true
-  pub permitted : every (permits (p .declarations)) (p .body) ≡ true
-  pub written : All (λ (d : Declaration). d .mode ≡ W → Written layout (p .body) d) (p .declarations)
-
--- "Accepted is the judge's answer, given exactly where none of its numbers holds"; "Passes that nobody calls are judged too."
-abbrev pub Accepts : DeclaredPlan → Type 0
-Accepts plan = All (Rules (plan .layout)) (plan .passes)
+-- the same of n cells, from cell c on
+unfoldable pub all-written : Layout → Side → Block Action → ℕ → ℕ → Bool
+all-written layout s body c zero = true
+all-written layout s body c (suc n) = always-writes layout s c body && all-written layout s body (suc c) n

@@ -1,6 +1,6 @@
 -- Records that act, and the cells that they cover (document 01, 'The plan file').
 use Prim.Native.Nat.{ℕ, _+_}
-use mathlib.Core.Bool.{Bool, true, false, _&&_, _||_}
+use mathlib.Core.Bool.{Bool, _&&_, _||_}
 use lib.Dec.{ltb, leb, eqb}
 use Rattle.model.specs.Lists.{how-many}
 use Rattle.model.specs.Sides.{Side, Layout, cell-count, span-of, in-span}
@@ -21,13 +21,9 @@ kind mark = 5
 abbrev pub same-verb : Verb → Verb → Bool
 same-verb v w = eqb (kind v) (kind w)
 
--- whether a verb speaks of an array's cells P to Q − 1 (false) or of the whole array (true): "4 need, 5 mark: side and array."
+-- whether a verb speaks of the whole array: "4 need, 5 mark: side and array"; 1 to 3 speak of "cells P to Q − 1 of the array"
 abbrev pub whole : Verb → Bool
-whole read = false
-whole write = false
-whole copy = false
-whole need = true
-whole mark = true
+whole v = leb 4 (kind v)
 
 -- "A record: kind, side, array, zero, then two numbers of two bytes, P and Q."
 pub record Action : Type 0 where

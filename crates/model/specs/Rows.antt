@@ -10,11 +10,11 @@ pub data Row : Type 0 where
   row : Bool → ℕ → ℕ → Row
 
 -- "Each is returned where its condition holds and no earlier one does"
-unfoldable pub first : List Row → Verdict
-first [] = Accepted
-first (row holds number place ∷ rows) = cond holds (Refused number place) (first rows)
+unfoldable pub answer-of : List Row → Verdict
+answer-of [] = Accepted
+answer-of (row holds number place ∷ rows) = cond holds (Refused number place) (answer-of rows)
 
 -- the rows of the entries 0, 1, .. below n: "entries and records ascending"
-unfoldable pub each : ℕ → (ℕ → List Row) → List Row
-each zero rows = []
-each (suc n) rows = each n rows ++ rows n
+unfoldable pub all-rows : ℕ → (ℕ → List Row) → List Row
+all-rows zero rows = []
+all-rows (suc n) rows = all-rows n rows ++ rows n

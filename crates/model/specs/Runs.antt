@@ -10,8 +10,9 @@ use Rattle.model.specs.Records.{Action, cover-count}
 use Rattle.model.specs.Effects.{State, Deed, start, counted, deed, met, effect}
 use Rattle.model.specs.Blocks.{Block, done, act, branch, loop, _then_, Plan}
 
--- an executed record, and what it came to
+-- an executed record: its number, what it is, and what it came to
 pub record Event : Type 0 where
+  pub number : ℕ
   pub action : Action
   pub deed : Deed
 
@@ -35,25 +36,9 @@ pub data Step : Type 0 where
   next : Config → Step
   ends : Ending → Step
 
--- one step, stops aside: a record acts, its need met or not; "Each branch and each test of a loop takes one" choice
-abbrev pub carry : Layout → Config → Step
-carry layout k = go (k .left) (k .choices)
-  where
-    to : Block Action → List Bool → Step
-    to b cs = next (record { left = b; choices = cs; state = k .state; history = k .history })
-
-    go : Block Action → List Bool → Step
-    go done cs = ends finished
-    go (act r x b) cs = next (record {
-      left = b;
-      choices = cs;
-      state = effect layout x (k .state);
-      history = record { action = x; deed = deed x (k .state) } ∷ k .history;
-    })
-    go (branch r x y b) [] = ends (out-of-choices r)
-    go (branch r x y b) (c ∷ cs) = to (cond c x y then b) cs
-    go (loop r x b) [] = ends (out-of-choices r)
-    go (loop r x b) (c ∷ cs) = to (cond c (x then loop r x b) b) cs
+-- "a run proper" stops at an unmet record; "For the check's answer a run is carried on"
+pub data Manner : Type 0 where
+  proper carried-on : Manner
 
 -- the lowest of n cells, from cell c on, in which the need of a record is unmet
 abbrev pub unmet-from : Layout → Action → State → ℕ → ℕ → Option ℕ
@@ -64,20 +49,34 @@ unmet-from layout x σ c (suc n) = cond (met layout x σ c) (unmet-from layout x
 abbrev pub lowest-unmet : Layout → Action → State → Option ℕ
 lowest-unmet layout x σ = unmet-from layout x σ 0 (cell-count layout)
 
--- a stop at record r, if it has an unmet cell
-abbrev pub stop-or : ℕ → Option ℕ → Step → Step
-stop-or r none otherwise = otherwise
-stop-or r (some c) otherwise = ends (stopped r c)
+-- the cell at which a run stops at a record, if there is one
+abbrev pub stops-in : Manner → Layout → Action → State → Option ℕ
+-- "A run stops at a record whose need is unmet; that record then changes nothing."
+stops-in proper layout x σ = lowest-unmet layout x σ
+-- "an unmet record .. acts all the same"
+stops-in carried-on layout x σ = none
 
--- one step of a run: "A run stops at a record whose need is unmet; that record then changes nothing."
-abbrev pub step : Layout → Config → Step
-step layout k = go (k .left)
+-- a stop at record r if there is such a cell, and else what follows
+abbrev pub stop-or : ℕ → Option ℕ → Step → Step
+stop-or r none follows = follows
+stop-or r (some c) follows = ends (stopped r c)
+
+-- one step: a record is executed, or a branch or loop tested ("Each branch and each test of a loop takes one" choice)
+abbrev pub step : Manner → Layout → Config → Step
+step manner layout k = go (k .left) (k .choices)
   where
-    go : Block Action → Step
-    go done = carry layout k
-    go (act r x b) = stop-or r (lowest-unmet layout x (k .state)) (carry layout k)
-    go (branch r x y b) = carry layout k
-    go (loop r x b) = carry layout k
+    to : Block Action → List Bool → State → List Event → Step
+    to b cs σ l = next (record { left = b; choices = cs; state = σ; history = l })
+
+    go : Block Action → List Bool → Step
+    go done cs = ends finished
+    go (act r x b) cs =
+        let event : Event = record { number = r; action = x; deed = deed x (k .state) } in
+        stop-or r (stops-in manner layout x (k .state)) (to b cs (effect layout x (k .state)) (event ∷ k .history))
+    go (branch r x y b) [] = ends (out-of-choices r)
+    go (branch r x y b) (c ∷ cs) = to (cond c x y then b) cs (k .state) (k .history)
+    go (loop r x b) [] = ends (out-of-choices r)
+    go (loop r x b) (c ∷ cs) = to (cond c (x then loop r x b) b) cs (k .state) (k .history)
 
 -- "It begins at the start"
 abbrev pub begin : Plan → List Bool → Config
@@ -90,15 +89,16 @@ pub data Reached (one : Config → Step) (from : Config) : Config → Type 0 whe
 
 -- the run of a plan on a list of choices: the configurations that it reaches. Their states are the moments:
 -- "the start and the state after each executed record" (a test of a branch or loop leaves the state as it is)
-abbrev pub Run : Plan → List Bool → Config → Type 0
-Run plan cs k = Reached (step (plan .layout)) (begin plan cs) k
+abbrev pub Run : Manner → Plan → List Bool → Config → Type 0
+Run manner plan cs k = Reached (step manner (plan .layout)) (begin plan cs) k
 
--- the run ends at configuration k, in this way
+-- the run proper ends at configuration k, in this way
 pub record Ends (plan : Plan) (cs : List Bool) (k : Config) (e : Ending) : Type 0 where
-  pub run : Run plan cs k
-  pub last : step (plan .layout) k ≡ ends e
+  pub run : Run proper plan cs k
+  pub last : step proper (plan .layout) k ≡ ends e
 
--- the tally of a history: "read records, write records, cells moved, from zero"; "A copy moves all its cells, a need that copies the whole array."
+-- the tally of a history: "read records, write records, cells moved, from zero"; "A copy moves all its cells, a need that copies the whole
+-- array."
 abbrev pub tally : Layout → List Event → Tally
 tally layout [] = record { reads = 0; writes = 0; moved = 0 }
 tally layout (e ∷ l) = counted (e .deed) (cover-count layout (e .action)) (tally layout l)

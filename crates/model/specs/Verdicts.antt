@@ -1,8 +1,15 @@
 -- The answers of document 01, by their numbers and values ('Numbers by the place where each is checked').
 use Prim.Native.Nat.{ℕ}
+use mathlib.Core.Bool.{Bool, true, false}
 use Rattle.model.specs.declared.Values.{Values}
 use Rattle.model.specs.declared.Verdict.{Verdict}
 use Rattle.model.specs.declared.Verdict.the-variants.{Accepted, Stopped, Refused}
+
+-- whether an answer is "accepted"
+abbrev pub accepted : Verdict → Bool
+accepted Accepted = true
+accepted (Stopped r c) = false
+accepted (Refused number place) = false
 
 -- "accepted, stopped with record and cell, or refused with number and place": 0 is accepted, `stop` is 18 of the check and 21 of the run
 abbrev pub values-of : ℕ → Verdict → Values

@@ -1,5 +1,5 @@
 -- What is packed where the values of an answer are known.
-use Prim.Native.Nat.{ℕ, _+_, _*_, _^_}
+use Prim.Native.Nat.{ℕ, _+_, _*_}
 use mathlib.Core.Path.{_≡_, ap}
 use Rattle.model.specs.declared.Values.{Values}
 use Rattle.model.specs.Verdicts.{values-of}

@@ -1,12 +1,12 @@
 -- Answers packed into 64 bits, for callers in C and Rust.
 use Prim.Native.Nat.{ℕ, _+_, _*_, _^_}
+use mathlib.Core.Bool.{cond}
 use mathlib.Core.List.{List, [], _∷_}
 use lib.ListN.{getD}
 use Rattle.model.specs.declared.Values.{Values}
 use Rattle.model.specs.declared.Tally.{Tally}
 use Rattle.model.specs.declared.Verdict.{Verdict}
-use Rattle.model.specs.declared.Verdict.the-variants.{Accepted, Stopped, Refused}
-use Rattle.model.specs.Verdicts.{values-of}
+use Rattle.model.specs.Verdicts.{accepted, values-of}
 use Rattle.model.specs.declared.Part.{Part}
 use Rattle.model.specs.declared.Length.{Length}
 use Rattle.model.specs.declared.End.{End}
@@ -16,7 +16,8 @@ use Rattle.model.specs.declared.View.{View}
 abbrev pub packed : ℕ → Values → ℕ
 packed kind v = v .number + 2 ^ 16 * v .place + 2 ^ 32 * v .cell + 2 ^ 48 * kind
 
--- an answer about a file of this kind: "An answer is accepted, stopped with record and cell, or refused with number and place", a stop with the number `stop`
+-- an answer about a file of this kind: "An answer is accepted, stopped with record and cell, or refused with number and place", a stop with
+-- the number `stop`
 unfoldable pub packed-answer : ℕ → ℕ → Verdict → ℕ
 packed-answer kind stop v = packed kind (values-of stop v)
 
@@ -24,7 +25,8 @@ packed-answer kind stop v = packed kind (values-of stop v)
 unfoldable pub packed-part : Part → ℕ
 packed-part p = packed 0 (record { number = values-of 0 (p .verdict) .number; place = p .from; cell = p .size })
 
--- the length of an expansion's file: number in bits 0 to 15, the length in 16 to 47, at a refusal the place there, the file's kind in 48 to 55
+-- the length of an expansion's file: number in bits 0 to 15, the length in 16 to 47, at a refusal the place there, the file's kind in 48 to
+-- 55
 unfoldable pub packed-length : ℕ → Length → ℕ
 packed-length kind l = let v = values-of 0 (l .verdict) in v .number + 2 ^ 16 * (v .place + l .bytes) + 2 ^ 48 * kind
 
@@ -37,11 +39,5 @@ abbrev pub tally-of : List ℕ → Tally
 tally-of t = record { reads = getD t 0 0; writes = getD t 1 0; moved = getD t 2 0 }
 
 -- the five figures of a run that is done: choices used, host flags, card flags, arrays current on the host, on the card; else as they were
-abbrev pub figures-by : End → List ℕ → Verdict → List ℕ
-figures-by e before Accepted = e .used ∷ e .«host_flags» ∷ e .«card_flags» ∷ e .«on_host» ∷ e .«on_card» ∷ []
-figures-by e before (Stopped r c) = before
-figures-by e before (Refused number place) = before
-
--- the same by the answer itself
 unfoldable pub figures-of : End → List ℕ → List ℕ
-figures-of e before = figures-by e before (e .verdict)
+figures-of e before = cond (accepted (e .verdict)) (e .used ∷ e .«host_flags» ∷ e .«card_flags» ∷ e .«on_host» ∷ e .«on_card» ∷ []) before

@@ -23,7 +23,7 @@ use Rattle.format.proofs.Walking.{Facts, opened-facts, good-parts}
 use Rattle.format.proofs.Acts.{cells-fit, array-fits}
 use Rattle.format.proofs.Trees.{pass-declaration, pass-walk, pass-body}
 use Rattle.contents.specs.declared.Opened.{Opened}
-use Rattle.contents.specs.Found.{found}
+use Rattle.contents.specs.Inner.Findings.{found}
 use Rattle.contents.proofs.Found.{body-at}
 use Rattle.format.specs.Opening.{opening}
 use Rattle.model.specs.declared.Verdict.the-variants.{Accepted}

@@ -14,19 +14,20 @@ use Rattle.model.specs.declared.Verdict.the-variants.{Accepted, Refused}
 use Rattle.model.specs.Lists.{any}
 use Rattle.model.specs.Sides.{same-side}
 use Rattle.model.specs.Records.{read, write}
-use Rattle.model.specs.Judging.{Mode, R, W, RW, R-or-RW, W-or-RW, Declaration, allowed-by, declares, permits}
+use Rattle.model.specs.Judging.{Mode, R, W, RW, R-or-RW, W-or-RW, Declaration, allowed-by, permits}
+use Rattle.model.specs.Inner.Declared.{declares}
 use Rattle.model.proofs.Booleans.{any-append}
 use Rattle.reading.specs.declared.Fields.{Fields}
-use Rattle.model.specs.Rows.{row, first}
+use Rattle.model.specs.Rows.{row, answer-of}
 use Rattle.reading.specs.Bytes.{table, declarations-in, fields-at, between}
 use Rattle.format.specs.Plans.{side-of, action-of, declaration-of, pass-at}
-use Rattle.contents.specs.Found.{found}
+use Rattle.contents.specs.Inner.Findings.{found}
 use Rattle.format.proofs.Walking.{array-start}
 use Rattle.reading.proofs.Ranges.{out-of-range}
 use Rattle.model.proofs.Rows.{holds, skips, skipped, empty, each-passed}
 use Rattle.reading.proofs.Tables.{getD-table, set-table}
 use Rattle.passes.specs.declared.Extent.{Extent}
-use Rattle.permits.specs.Permits.{declared-before, record-rows}
+use Rattle.permits.specs.Permits.{declared-before, permit-rows}
 use Rattle.passes.specs.Inner.Passes.{PassAt}
 use Rattle.permits.specs.Inner.Uses.{declared-field, kinds-of, Sides, ByArray, permitted, use-rows}
 use Rattle.marks.specs.Inner.Marks.{Tables}
@@ -97,21 +98,21 @@ module _ (f : List ℕ) (e : Extent) (p : PassAt f e) where
     unfolding declared-before declaration-of
     before-is = rw (← p .from-is, ex) (any-declared f (e .from) i _ (λ j l. declaration-kind f e p j (omega arith) .0))
 
-    rows-are : record-rows f (e .body) i ≡ (row (not (eqb (kind-in f (e .from) i (x .array)) 0)) 12 (e .from + i) ∷ [])
-    unfolding record-rows
+    rows-are : permit-rows f (e .body) i ≡ (row (not (eqb (kind-in f (e .from) i (x .array)) 0)) 12 (e .from + i) ∷ [])
+    unfolding permit-rows
     rows-are = rw (lt-ltb i (declarations-in f (e .body)) (rw (← p .declarations-are) h), before-is, ← p .from-is)
 
     module _ (kinds : List ℕ) (ek : kinds ≡ kinds-of f (e .from) i) where
       kind-is : getD kinds (x .array) 0 ≡ kind-in f (e .from) i (x .array)
       kind-is = rw ek (getD-table _ 32 (x .array) 0 (rw ex (omega (arith, declaration-array f e p i h .1, arrays-low f e p))))
 
-      pub twice : (getD kinds (x .array) 0 ≡ 0 → ⊥) → Refused 12 (e .from + i) ≡ first (record-rows f (e .body) i)
+      pub twice : (getD kinds (x .array) 0 ≡ 0 → ⊥) → Refused 12 (e .from + i) ≡ answer-of (permit-rows f (e .body) i)
       twice z = rw rows-are (holds _ _ _ _ (rw (ne-eqb (kind-in f (e .from) i (x .array)) 0 (λ w. z (kind-is ∙ w)))))
 
-      pub once : getD kinds (x .array) 0 ≡ 0 → Accepted ≡ first (record-rows f (e .body) i)
+      pub once : getD kinds (x .array) 0 ≡ 0 → Accepted ≡ answer-of (permit-rows f (e .body) i)
       once z = rw rows-are (skips _ _ _ _ _ (rw (eq-eqb (kind-in f (e .from) i (x .array)) 0 (sym kind-is ∙ z))) empty)
 
-    undeclared : Accepted ≡ first (record-rows f (e .body) i) → kind-in f (e .from) i (x .array) ≡ 0
+    undeclared : Accepted ≡ answer-of (permit-rows f (e .body) i) → kind-in f (e .from) i (x .array) ≡ 0
     undeclared a = eqb-true _ _ (not-false _ (skipped _ _ _ _ (rw rows-are at a) .0))
 
     pub stored : (field : Fields → ℕ) (l : List ℕ) → l ≡ table (declared-field field f (e .from) i) 32 → set l (x .array) (field x) ≡ table (declared-field field f (e .from) (i + 1)) 32
@@ -121,7 +122,7 @@ module _ (f : List ℕ) (e : Extent) (p : PassAt f e) where
   -- where no array is declared twice, the entry of a declaration's array is its own
   module _ (sides : List ℕ) (b : Sides f e sides) where
     undeclared-at : (i : ℕ) → i < e .declarations → kind-in f (e .from) i (fields-at f (e .from + i) .array) ≡ 0
-    undeclared-at i h = undeclared i h _ refl (each-passed (record-rows f (e .body)) (e .declarations) i (b .once) h)
+    undeclared-at i h = undeclared i h _ refl (each-passed (permit-rows f (e .body)) (e .declarations) i (b .once) h)
 
     kept : (field : Fields → ℕ) (i n : ℕ) → i < n → n ≤ e .declarations → declared-field field f (e .from) n (fields-at f (e .from + i) .array) ≡ field (fields-at f (e .from + i))
     unfolding declared-field
@@ -196,6 +197,6 @@ module _ (f : List ℕ) (e : Extent) (p : PassAt f e) where
           rw (b .kinds-are, b .by-side .sides-are, getD-table (kind-in f (e .from) (e .declarations)) 32 (x .array) 0 array-low, getD-table (side-in f (e .from) (e .declarations)) 32 (x .array) 0 array-low, permits-is sides (b .by-side) x low (rw ex (other-kind f e p i h l .0)) (omega arith))
     ]
 
-    pub uses-are : use-rows (e .from + i) x (getD kinds (x .array) 0) (getD sides (x .array) 0) ≡ record-rows f (e .body) i
-    unfolding use-rows record-rows
+    pub uses-are : use-rows (e .from + i) x (getD kinds (x .array) 0) (getD sides (x .array) 0) ≡ permit-rows f (e .body) i
+    unfolding use-rows permit-rows
     uses-are = rw (condition, le-ltb i (declarations-in f (e .body)) (rw (← p .declarations-are) h), ← p .from-is, ex)

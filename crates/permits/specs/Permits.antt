@@ -16,13 +16,12 @@ declared-before f b i =
     any (λ (d : Declaration). eqb (d .array) (declaration-of (fields-at f (r + i)) .array)) (table (λ j. declaration-of (fields-at f (r + j))) i)
 
 -- the rows of record i of pass b: "12 second declaration of an array; 13 a read or write undeclared; 14 kind 3, 4 or 5"
-unfoldable pub record-rows : List ℕ → ℕ → ℕ → List Row
-record-rows f b i =
+unfoldable pub permit-rows : List ℕ → ℕ → ℕ → List Row
+permit-rows f b i =
     let r = first-record f b + i in
     let x = fields-at f r in
     let permitted = permits (pass-at f b .declarations) (action-of x) in
     cond (ltb i (declarations-in f b))
     (row (declared-before f b i) 12 r ∷ [])
     (row (between 1 2 (x .kind) && not permitted) 13 r
-    ∷ row (between 3 5 (x .kind)) 14 r
-    ∷ [])
+    ∷ row (between 3 5 (x .kind)) 14 r ∷ [])

@@ -2,10 +2,10 @@
 ghost use mathlib.Core.Path.{_≡_};
 ghost use Prim.Native.Nat.{_<_};
 ghost use lib.ListN.{replicate};
-ghost use Rattle.model.specs.Rows.{first, each};
+ghost use Rattle.model.specs.Rows.{answer-of, all-rows};
 ghost use Rattle.reading.specs.Bytes.{records-in, declarations-in};
 ghost use Rattle.passes.specs.Inner.Passes.{PassAt};
-ghost use Rattle.permits.specs.Permits.{record-rows};
+ghost use Rattle.permits.specs.Permits.{permit-rows};
 ghost use Rattle.permits.specs.Inner.Uses.{ByArray, permitted, use-rows};
 use model::Verdict;
 use passes::Extent;
@@ -28,7 +28,7 @@ pub fn declarations(
     sides: &mut [u8; NAMES],
 ) -> Verdict
     requires { ⌜ PassAt (now plan) e × (now kinds ≡ replicate 32 0) × (now sides ≡ replicate 32 0) ⌝ }
-    ensures verdict { λ v. ⌜ v ≡ first (each (declarations-in (now (plan .entry)) (e .body)) (record-rows (now (plan .entry)) (e .body))) ⌝ }
+    ensures verdict { λ v. ⌜ v ≡ answer-of (all-rows (declarations-in (now (plan .entry)) (e .body)) (permit-rows (now (plan .entry)) (e .body))) ⌝ }
     ensures found { λ v. ⌜ (v ≡ Verdict.Accepted → ByArray (now (plan .entry)) e (now (kinds .exit)) (now (sides .exit))) ⌝ }
 {
     let mut i: usize = 0;
@@ -57,7 +57,7 @@ pub fn permitted(x: Fields, kind: u8, side: u8) -> bool
 // Numbers 13 and 14 of record r.
 pub fn use_tests(r: usize, x: Fields, kind: u8, side: u8) -> Verdict
     requires { ⌜ r < 1024 ⌝ }
-    ensures { λ v. ⌜ v ≡ first (use-rows r x kind side) ⌝ }
+    ensures { λ v. ⌜ v ≡ answer-of (use-rows r x kind side) ⌝ }
 {
     let place = r as u16;
     let declared = permitted(x, kind, side);
@@ -73,7 +73,7 @@ pub fn use_tests(r: usize, x: Fields, kind: u8, side: u8) -> Verdict
 // Numbers 13 and 14 of the records after the declarations, of which these are the kinds and the sides by array.
 pub fn uses(plan: &[u8], e: Extent, kinds: &[u8; NAMES], sides: &[u8; NAMES]) -> Verdict
     requires { ⌜ PassAt (now plan) e × ByArray (now plan) e (now kinds) (now sides) ⌝ }
-    ensures { λ v. ⌜ v ≡ first (each (records-in (now (plan .entry)) (e .body)) (record-rows (now (plan .entry)) (e .body))) ⌝ }
+    ensures { λ v. ⌜ v ≡ answer-of (all-rows (records-in (now (plan .entry)) (e .body)) (permit-rows (now (plan .entry)) (e .body))) ⌝ }
 {
     let mut i = e.declarations;
     while i < e.records {

@@ -1,6 +1,6 @@
 -- The output has room for every expansion: 17 is never the answer, and what is written is the expansion's file.
-use mathlib.Core.Path.{_≡_, refl, sym, ap, _∙_}
-use mathlib.Core.Bool.{false}
+use mathlib.Core.Path.{_≡_, refl, sym, ap}
+use mathlib.Core.Bool.{false, cond}
 use mathlib.Core.List.{List, [], _∷_, _++_, append-assoc, append-nil}
 use Prim.Native.Nat.{ℕ, _≤_}
 use native.Mathlib.Omega.{arith}
@@ -12,7 +12,8 @@ use Rattle.io.specs.Counts.{Counts}
 use Rattle.model.specs.declared.Verdict.{Verdict}
 use Rattle.model.specs.declared.Verdict.the-variants.{Accepted, Stopped, Refused}
 use Rattle.model.specs.Blocks.{size}
-use Rattle.model.specs.Rows.{Row, row, first}
+use Rattle.model.specs.Verdicts.{accepted}
+use Rattle.model.specs.Rows.{Row, row, answer-of}
 use Rattle.format.specs.Plans.{declared-plan-of}
 use Rattle.format.proofs.Walking.{opened-facts}
 use Rattle.model.proofs.Rows.{skipped, passed, unheld}
@@ -20,9 +21,8 @@ use Rattle.reading.proofs.Tables.{arrays-counted}
 use Rattle.files.proofs.RoundTrip.{plain-length}
 use Rattle.judge.specs.Judged.{judge-rows, judged}
 use Rattle.files.specs.Expansions.{expansion-of, expansion-file}
-use Rattle.expand.specs.Expanded.{expand-answer, expanded, written, length-answer, length-by, length-of-expansion}
+use Rattle.expand.specs.Expanded.{expand-answer, expanded, length-answer, length-of-expansion}
 use Rattle.expand.proofs.Laws.Answers.{accepted-file}
-use Rattle.planexpand.specs.Expansions.{shown}
 
 module _ (f : List ℕ) where
   -- an expansion has at most 1,024 records and at most 32 arrays
@@ -34,7 +34,7 @@ module _ (f : List ℕ) where
   rows = judge-rows f ++ (row (ltb 1024 (size (expansion-of f .body))) 16 0 ∷ [])
 
   module _ (out : List ℕ) (room : 8266 ≤ length out) where
-    fits : Accepted ≡ first rows → ltb (length out) (length (expansion-file f)) ≡ false
+    fits : Accepted ≡ answer-of rows → ltb (length out) (length (expansion-file f)) ≡ false
     unfolding judged
     fits e =
         let p = passed (judge-rows f) _ e in
@@ -45,19 +45,22 @@ module _ (f : List ℕ) where
     roomy = simp (append-assoc, append-nil) at (unheld rows [] (ltb (length out) (length (expansion-file f))) 17 0 fits)
 
 -- so many bytes of the output are written, by the answer
-pub record Writes (f new : List ℕ) (v : Verdict) : Type 0 where
-  pub counts : Counts (length-by f v .bytes) new
-  pub shows : take (length-by f v .bytes) new ≡ shown f v
-
 module _ (f out : List ℕ) where
-  writes : (v : Verdict) → Writes f (written f out v) v
+  abbrev shown : Verdict → List ℕ
+  shown v = cond (accepted v) (expansion-file f) []
+
+  record Writes (v : Verdict) : Type 0 where
+    counts : Counts (cond (accepted v) (length (expansion-file f)) 0) (cond (accepted v) (expansion-file f ++ drop (length (expansion-file f)) out) out)
+    shows : take (cond (accepted v) (length (expansion-file f)) 0) (cond (accepted v) (expansion-file f ++ drop (length (expansion-file f)) out) out) ≡ shown v
+
+  writes : (v : Verdict) → Writes v
   writes Accepted =
       let e : take (length (expansion-file f)) (expansion-file f ++ drop (length (expansion-file f)) out) ≡ expansion-file f = take-at (expansion-file f) _ _ refl in
       record { counts = (simp length-append (omega arith), ap length (sym e)); shows = e }
   writes (Stopped r c) = record { counts = (omega arith, refl); shows = refl }
   writes (Refused number place) = record { counts = (omega arith, refl); shows = refl }
 
-  pub written-out : 8266 ≤ length out → (n : ℕ) → n ≡ length-of-expansion f .bytes → Counts n (expanded f out) × (take n (expanded f out) ≡ shown f (expand-answer f out))
+  pub written-out : 8266 ≤ length out → (n : ℕ) → n ≡ length-of-expansion f .bytes → Counts n (expanded f out) × (take n (expanded f out) ≡ shown (expand-answer f out))
   unfolding expanded length-of-expansion
   written-out room n e =
       let w = writes (expand-answer f out) in

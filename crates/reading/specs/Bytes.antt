@@ -16,9 +16,16 @@ byte-at f i = getD f i 0
 unfoldable pub u16-at : List ℕ → ℕ → ℕ
 u16-at f i = byte-at f i + byte-at f (i + 1) * 256
 
--- "Byte 0: kind, 1 declared, 2 plain."
+-- "Byte 0: kind"
 abbrev pub kind-of : List ℕ → ℕ
 kind-of f = byte-at f 0
+
+-- "1 declared, 2 plain"
+abbrev pub is-declared : List ℕ → Bool
+is-declared f = eqb (kind-of f) 1
+
+abbrev pub is-plain : List ℕ → Bool
+is-plain f = eqb (kind-of f) 2
 
 -- "Byte 1: arrays"
 abbrev pub array-count : List ℕ → ℕ
@@ -56,10 +63,6 @@ records-in f b = u16-at f (entry-at f b)
 -- "its declarations (one byte)"
 abbrev pub declarations-in : List ℕ → ℕ → ℕ
 declarations-in f b = byte-at f (entry-at f b + 2)
-
--- "zero": the fourth byte
-abbrev pub last-of-entry : List ℕ → ℕ → ℕ
-last-of-entry f b = byte-at f (entry-at f b + 3)
 
 -- "Records are numbered from 0 through all bodies in order": the records of each body
 unfoldable pub sizes-of : List ℕ → List ℕ

@@ -7,10 +7,10 @@ use lib.ListN.{getD}
 use borrow.Author.Tests.{lt-ltb, le-ltb}
 use Rattle.model.specs.declared.Verdict.{Verdict}
 use Rattle.model.specs.declared.Verdict.the-variants.{Accepted}
-use Rattle.model.specs.Rows.{first}
+use Rattle.model.specs.Rows.{answer-of}
 use Rattle.reading.specs.Bytes.{body-count, records-in, fields-at, first-arm, second-arm}
 use Rattle.rules.specs.Rules.{record-rows}
-use Rattle.records.specs.Records.{block-rows, records-rows}
+use Rattle.records.specs.Records.{block-rows, body-rows}
 use Rattle.model.proofs.Rows.{stop, pass}
 use Rattle.rules.proofs.Rules.{tests-of}
 use Rattle.reading.proofs.Tables.{next-record}
@@ -19,14 +19,14 @@ use Rattle.contents.proofs.Found.{BodyAt}
 
 -- the answer of a block, at each fuel that is at least its number of records
 abbrev pub Answers : List ℕ → ℕ → ℕ → ℕ → ℕ → Verdict → Type 0
-Answers f b depth r end v = (fuel : ℕ) → end ≤ r + fuel → v ≡ first (block-rows fuel f b depth r end)
+Answers f b depth r end v = (fuel : ℕ) → end ≤ r + fuel → v ≡ answer-of (block-rows fuel f b depth r end)
 
 pub at-end : (f : List ℕ) (b depth r end : ℕ) → end ≤ r → Answers f b depth r end Accepted
-unfolding block-rows first
+unfolding block-rows answer-of
 at-end f b depth r end h zero l = refl
 at-end f b depth r end h (suc fuel) l = simp (le-ltb _ _ h)
 
-pub at-record : (f : List ℕ) (b depth r end : ℕ) → r < end → (v : Verdict) → (v ≡ Accepted → ⊥) → v ≡ first (record-rows f b depth end r) → Answers f b depth r end v
+pub at-record : (f : List ℕ) (b depth r end : ℕ) → r < end → (v : Verdict) → (v ≡ Accepted → ⊥) → v ≡ answer-of (record-rows f b depth r end) → Answers f b depth r end v
 unfolding block-rows
 at-record f b depth r end h v nay e zero l = absurd (omega arith)
 at-record f b depth r end h v nay e (suc fuel) l = rw (lt-ltb _ _ h) (stop _ _ v nay e)
@@ -36,7 +36,7 @@ pub record Passes (f : List ℕ) (b depth r end i j : ℕ) : Type 0 where
   pub less : r < end
   pub one : i ≡ first-arm (fields-at f r)
   pub two : j ≡ second-arm (fields-at f r)
-  pub accepts : Accepted ≡ first (record-rows f b depth end r)
+  pub accepts : Accepted ≡ answer-of (record-rows f b depth r end)
 
 module _ (f : List ℕ) (b depth r end i j : ℕ) (p : Passes f b depth r end i j) where
   second-is : r + 1 + i ≡ r + 1 + first-arm (fields-at f r)
@@ -73,6 +73,6 @@ module _ (f : List ℕ) (b depth r end i j : ℕ) (p : Passes f b depth r end i 
       rw (lt-ltb _ _ (p .less)) (pass _ _ v (p .accepts) (pass _ _ v (rw second-is at (a fuel le)) (pass _ _ v (rw (next-is, second-is) at (c fuel lf)) (rw next-is at (n fuel lg)))))
 
 -- the records of body b
-pub body-records : (f : List ℕ) (o : Opened) (b : ℕ) → b < body-count f → BodyAt f o b → (v : Verdict) → Answers f b 0 (getD (o .«body_starts») b 0) (getD (o .«body_starts») (b + 1) 0) v → v ≡ first (records-rows f b)
-unfolding records-rows
+pub body-records : (f : List ℕ) (o : Opened) (b : ℕ) → b < body-count f → BodyAt f o b → (v : Verdict) → Answers f b 0 (getD (o .«body_starts») b 0) (getD (o .«body_starts») (b + 1) 0) v → v ≡ answer-of (body-rows f b)
+unfolding body-rows
 body-records f o b h x v a = rw (next-record f b h, ← x .end-is, ← x .from-is) (a (records-in f b) (omega (arith, x .end-is, x .from-is)))

@@ -14,8 +14,9 @@ block-rows zero f b depth r end = []
 block-rows (suc fuel) f b depth r end =
     let second = r + 1 + first-arm (fields-at f r) in
     let next = second + second-arm (fields-at f r) in
-    cond (ltb r end) (record-rows f b depth end r ++ (block-rows fuel f b (depth + 1) (r + 1) second ++ (block-rows fuel f b (depth + 1) second next ++ block-rows fuel f b depth next end))) []
+    let arms = block-rows fuel f b (depth + 1) (r + 1) second ++ (block-rows fuel f b (depth + 1) second next ++ block-rows fuel f b depth next end) in
+    cond (ltb r end) (record-rows f b depth r end ++ arms) []
 
 -- the records of body b
-unfoldable pub records-rows : List ℕ → ℕ → List Row
-records-rows f b = block-rows (records-in f b) f b 0 (first-record f b) (first-record f (suc b))
+unfoldable pub body-rows : List ℕ → ℕ → List Row
+body-rows f b = block-rows (records-in f b) f b 0 (first-record f b) (first-record f (suc b))

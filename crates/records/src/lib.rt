@@ -2,12 +2,12 @@
 ghost use mathlib.Core.Path.{_≡_};
 ghost use Prim.Native.Nat.{ℕ, _+_, _≤_};
 ghost use Rattle.model.specs.declared.Verdict.the-variants.{Accepted};
-ghost use Rattle.model.specs.Rows.{first, each};
+ghost use Rattle.model.specs.Rows.{answer-of, all-rows};
 ghost use Rattle.reading.specs.Bytes.{body-count, declarations-in, first-record};
 ghost use Rattle.reading.specs.Inner.Places.{Inside};
 ghost use Rattle.contents.specs.Contents.{front-rows};
-ghost use Rattle.contents.specs.Found.{found};
-ghost use Rattle.records.specs.Records.{block-rows, records-rows};
+ghost use Rattle.contents.specs.Inner.Findings.{found};
+ghost use Rattle.records.specs.Records.{block-rows, body-rows};
 use contents::Opened;
 use model::Verdict;
 use reading::first_arm;
@@ -26,7 +26,7 @@ pub fn block(
     end: usize,
 ) -> Verdict
     requires { ⌜ (depth ≤ from) × (from ≤ end) × (end ≤ 1024) × Inside (now plan) bodies end × (until ≡ first-record (now plan) body + declarations-in (now plan) body) ⌝ }
-    ensures { λ v. ⌜ ((fuel : ℕ) → end ≤ from + fuel → v ≡ first (block-rows fuel (now (plan .entry)) body depth from end)) ⌝ }
+    ensures { λ v. ⌜ ((fuel : ℕ) → end ≤ from + fuel → v ≡ answer-of (block-rows fuel (now (plan .entry)) body depth from end)) ⌝ }
 {
     let mut r = from;
     while r < end {
@@ -54,8 +54,8 @@ pub fn block(
 
 // Numbers 8 to 10 of every body of a file in which none of 1 to 7 holds and o was found.
 pub fn all_records(plan: &[u8], o: Opened) -> Verdict
-    requires { ⌜ (Accepted ≡ first (front-rows (now plan))) × (o ≡ found (now plan)) ⌝ }
-    ensures { λ r. ⌜ r ≡ first (each (body-count (now (plan .entry))) (records-rows (now (plan .entry)))) ⌝ }
+    requires { ⌜ (Accepted ≡ answer-of (front-rows (now plan))) × (o ≡ found (now plan)) ⌝ }
+    ensures { λ r. ⌜ r ≡ answer-of (all-rows (body-count (now (plan .entry))) (body-rows (now (plan .entry)))) ⌝ }
 {
     let offset = o.offset as usize;
     let bodies = o.bodies as usize;

@@ -1,18 +1,17 @@
 -- What planrun reports (document 01, 'Running and viewing').
 use Prim.Native.Nat.{ℕ}
 use mathlib.Core.Path.{_≡_}
-use mathlib.Core.Bool.{cond, not}
-use mathlib.Core.List.{List, [], _∷_, _++_}
-use lib.Dec.{eqb, ltb}
-use lib.ListN.{length}
+use mathlib.Core.Bool.{cond}
+use mathlib.Core.List.{List}
+use lib.Dec.{eqb}
 use Rattle.model.specs.declared.Verdict.{Verdict}
 use Rattle.model.specs.declared.Verdict.the-variants.{Accepted, Stopped, Refused}
 use Rattle.model.specs.declared.Tally.{Tally}
 use Rattle.model.specs.Verdicts.{values-of}
-use Rattle.model.specs.Rows.{row, first}
-use Rattle.reading.specs.Bytes.{kind-of}
-use Rattle.format.specs.Opening.{open-rows}
-use Rattle.run.specs.Running.{Lent, run-rows, Runs}
+use Rattle.model.specs.Sides.{cell-count}
+use Rattle.reading.specs.Bytes.{layout-of}
+use Rattle.format.specs.Opening.{opening}
+use Rattle.run.specs.Running.{Lent, Roomy, Runs}
 use Rattle.report.specs.declared.Ending.{Ending}
 use Rattle.report.specs.declared.Ending.the-variants as ending
 use Rattle.report.specs.declared.Report.{Report}
@@ -27,20 +26,12 @@ ending-of (Refused number place) = cond (eqb number 22) ending.Spent ending.Refu
 abbrev pub nothing : Tally
 nothing = record { reads = 0; writes = 0; moved = 0 }
 
--- the numbers of opening, 11, and "20 over 65,536 choices"
-unfoldable pub answer-with-room : List ℕ → List ℕ → Verdict
-answer-with-room f choices =
-    first
-    (open-rows f ++ (row (not (eqb (kind-of f) 2)) 11 0
-    ∷ row (ltb 65536 (length choices)) 20 0
-    ∷ []))
-
 -- of a plan file f and choices, with the program's memories before and after
 pub record ReportOf (f choices : List ℕ) (before after : Lent) (r : Report) : Type 0 where
   -- "memories and tally hold the state"
   pub runs : Runs f choices before after (r .end)
   -- number 19 is never the answer: no plan has more cells than the memories
-  pub roomy : first (run-rows f choices before) ≡ answer-with-room f choices
+  pub roomy : opening f ≡ Accepted → Roomy (cell-count (layout-of f)) before
   -- "stopped (record and lowest unmet cell)" has the number 21
   pub values : r .values ≡ values-of 21 (r .end .verdict)
   pub ending : r .ending ≡ ending-of (r .end .verdict)

@@ -8,19 +8,19 @@ use borrow.Author.Tests.{ltb-false, not-false}
 use Rattle.model.proofs.Booleans.{or-none}
 use Rattle.model.specs.declared.Verdict.the-variants.{Accepted, Refused}
 use Rattle.reading.specs.declared.Fields.{Fields}
-use Rattle.model.specs.Rows.{first}
+use Rattle.model.specs.Rows.{answer-of}
 use Rattle.reading.specs.Bytes.{fields-at, between, first-arm, second-arm}
 use Rattle.rules.specs.Rules.{fields-fit, allowed, deepest, record-rows}
 use Rattle.model.proofs.Rows.{holds, skips, skipped, empty}
 
 -- the three tests of record r, which has the fields x
 module _ (f : List ℕ) (b depth end r : ℕ) (x : Fields) (ex : x ≡ fields-at f r) (v : Bool) (ev : v ≡ fields-fit f x) where
-  pub field-stop : not v ≡ true → Refused 8 r ≡ first (record-rows f b depth end r)
+  pub field-stop : not v ≡ true → Refused 8 r ≡ answer-of (record-rows f b depth r end)
   unfolding record-rows
   field-stop t = holds _ _ _ _ (rw (ev, ex) at t)
 
   module _ (t : not v ≡ false) (w : Bool) (ew : w ≡ allowed f b r x) where
-    pub kind-stop : not w ≡ true → Refused 9 r ≡ first (record-rows f b depth end r)
+    pub kind-stop : not w ≡ true → Refused 9 r ≡ answer-of (record-rows f b depth r end)
     unfolding record-rows
     kind-stop u = skips _ _ _ _ _ (rw (ev, ex) at t) (holds _ _ _ _ (rw (ew, ex) at u))
 
@@ -31,11 +31,11 @@ module _ (f : List ℕ) (b depth end r : ℕ) (x : Fields) (ex : x ≡ fields-at
       arm-row : bad-arm ≡ (ltb end (r + 1 + first-arm (fields-at f r) + second-arm (fields-at f r)) || (between 6 7 (fields-at f r .kind) && ltb (deepest f) depth))
       arm-row = rw (ei, ej, el, ex)
 
-      pub arm-stop : bad-arm ≡ true → Refused 10 r ≡ first (record-rows f b depth end r)
+      pub arm-stop : bad-arm ≡ true → Refused 10 r ≡ answer-of (record-rows f b depth r end)
       unfolding record-rows
       arm-stop o = skips _ _ _ _ _ (rw (ev, ex) at t) (skips _ _ _ _ _ (rw (ew, ex) at u) (holds _ _ _ _ (sym arm-row ∙ o)))
 
-      pub record-pass : bad-arm ≡ false → Accepted ≡ first (record-rows f b depth end r)
+      pub record-pass : bad-arm ≡ false → Accepted ≡ answer-of (record-rows f b depth r end)
       unfolding record-rows
       record-pass o = skips _ _ _ _ _ (rw (ev, ex) at t) (skips _ _ _ _ _ (rw (ew, ex) at u) (skips _ _ _ _ _ (sym arm-row ∙ o) empty))
 
@@ -46,7 +46,7 @@ pub record Tests (f : List ℕ) (b depth r end : ℕ) : Type 0 where
   pub inside : r + 1 + first-arm (fields-at f r) + second-arm (fields-at f r) ≤ end
   pub shallow : (between 6 7 (fields-at f r .kind) && ltb (deepest f) depth) ≡ false
 
-pub tests-of : (f : List ℕ) (b depth r end : ℕ) → Accepted ≡ first (record-rows f b depth end r) → Tests f b depth r end
+pub tests-of : (f : List ℕ) (b depth r end : ℕ) → Accepted ≡ answer-of (record-rows f b depth r end) → Tests f b depth r end
 unfolding record-rows
 tests-of f b depth r end e =
     let t = skipped _ _ _ _ e in

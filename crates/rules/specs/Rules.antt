@@ -5,25 +5,25 @@ use mathlib.Core.List.{List, [], _∷_}
 use lib.Dec.{ltb, leb, eqb}
 use Rattle.model.specs.Rows.{Row, row}
 use Rattle.reading.specs.declared.Fields.{Fields}
-use Rattle.reading.specs.Bytes.{kind-of, array-count, body-count, length-at, declarations-in, first-record, fields-at, between, first-arm, second-arm}
+use Rattle.reading.specs.Bytes.{is-plain, array-count, body-count, length-at, declarations-in, first-record, fields-at, between, first-arm, second-arm}
 
 -- EACH RECORD. "8 a field against its rule"; "Unused fields are zero."
 unfoldable pub fields-fit : List ℕ → Fields → Bool
 fields-fit f x =
     let on-side = ltb (x .side) 2 in
     let on-array = ltb (x .array) (array-count f) in
-    let no-array = eqb (x .side) 0 && eqb (x .array) 0 in
-    let last-zero = eqb (x .zero) 0 in
+    let names-none = eqb (x .side) 0 && eqb (x .array) 0 in
+    let fourth-zero = eqb (x .zero) 0 in
     -- "1 read, 2 write, 3 copy: cells P to Q − 1 of the array, P < Q ≤ its length."
-    cond (between 1 3 (x .kind)) (on-side && on-array && last-zero && ltb (x .p) (x .q) && leb (x .q) (length-at f (x .array)))
+    cond (between 1 3 (x .kind)) (on-side && on-array && fourth-zero && ltb (x .p) (x .q) && leb (x .q) (length-at f (x .array)))
     -- "4 need, 5 mark: side and array." "16 R, 17 W, 18 RW: side and array."
-    (cond (between 4 5 (x .kind) || between 16 18 (x .kind)) (on-side && on-array && last-zero && eqb (x .p) 0 && eqb (x .q) 0)
+    (cond (between 4 5 (x .kind) || between 16 18 (x .kind)) (on-side && on-array && fourth-zero && eqb (x .p) 0 && eqb (x .q) 0)
     -- "6 branch: P records of the first arm, then Q of the second."
-    (cond (eqb (x .kind) 6) (no-array && last-zero)
+    (cond (eqb (x .kind) 6) (names-none && fourth-zero)
     -- "7 loop: P records."
-    (cond (eqb (x .kind) 7) (no-array && last-zero && eqb (x .q) 0)
+    (cond (eqb (x .kind) 7) (names-none && fourth-zero && eqb (x .q) 0)
     -- "8 call: P is a body, 1 to the last."
-    (cond (eqb (x .kind) 8) (no-array && last-zero && eqb (x .q) 0 && leb 1 (x .p) && ltb (x .p) (body-count f))
+    (cond (eqb (x .kind) 8) (names-none && fourth-zero && eqb (x .q) 0 && leb 1 (x .p) && ltb (x .p) (body-count f))
     -- "kinds 0, 9 to 15 and 19 to 255 are unknown: number 9, no field tested."
     true))))
 
@@ -31,21 +31,20 @@ fields-fit f x =
 -- a pass "declarations first, as many as the contents say, then kinds 1 to 7"
 unfoldable pub allowed : List ℕ → ℕ → ℕ → Fields → Bool
 allowed f b r x =
-    cond (eqb (kind-of f) 2) (between 1 7 (x .kind))
+    cond (is-plain f) (between 1 7 (x .kind))
     (cond (eqb b 0) (between 6 8 (x .kind))
     (cond (ltb r (first-record f b + declarations-in f b)) (between 16 18 (x .kind))
     (between 1 7 (x .kind))))
 
 -- "In a plain plan each stands inside at most 15 others, in a body of a declared plan inside at most 7."
 unfoldable pub deepest : List ℕ → ℕ
-deepest f = cond (eqb (kind-of f) 2) 15 7
+deepest f = cond (is-plain f) 15 7
 
 -- the rows of record r of body b, which stands inside `depth` branches and loops, in an arm or body that ends before record `end`:
 -- 8, 9, then "10 arm past the end of what holds it, or nested too deep"
 unfoldable pub record-rows : List ℕ → ℕ → ℕ → ℕ → ℕ → List Row
-record-rows f b depth end r =
+record-rows f b depth r end =
     let x = fields-at f r in
     row (not (fields-fit f x)) 8 r
     ∷ row (not (allowed f b r x)) 9 r
-    ∷ row (ltb end (r + 1 + first-arm x + second-arm x) || (between 6 7 (x .kind) && ltb (deepest f) depth)) 10 r
-    ∷ []
+    ∷ row (ltb end (r + 1 + first-arm x + second-arm x) || (between 6 7 (x .kind) && ltb (deepest f) depth)) 10 r ∷ []

@@ -2,7 +2,7 @@
 ghost use mathlib.Core.Path.{_≡_};
 ghost use Prim.Native.Nat.{_+_, _≤_, _<_};
 ghost use lib.ListN.{length};
-ghost use Rattle.model.specs.Rows.{first};
+ghost use Rattle.model.specs.Rows.{answer-of};
 ghost use Rattle.reading.specs.Bytes.{array-count, length-at, declarations-in, first-record, bodies-at, fields-at};
 ghost use Rattle.rules.specs.Rules.{fields-fit, allowed, deepest, record-rows};
 use model::Verdict;
@@ -100,7 +100,7 @@ pub fn record_tests(
     x: Fields,
 ) -> Verdict
     requires { ⌜ (bodies-at (now plan) ≤ length (now plan)) × (r < 1024) × (x ≡ fields-at (now plan) r) × (until ≡ first-record (now plan) body + declarations-in (now plan) body) ⌝ }
-    ensures { λ v. ⌜ v ≡ first (record-rows (now (plan .entry)) body depth end r) ⌝ }
+    ensures { λ v. ⌜ v ≡ answer-of (record-rows (now (plan .entry)) body depth r end) ⌝ }
 {
     let place = r as u16;
     if !fields_fit(plan, x) {

@@ -10,7 +10,7 @@ use Rattle.model.specs.declared.Verdict.{Verdict}
 use Rattle.model.specs.declared.Verdict.the-variants.{Accepted, Refused}
 use Rattle.model.specs.Sides.{cell-count}
 use Rattle.model.proofs.Booleans.{or-none}
-use Rattle.model.specs.Rows.{first}
+use Rattle.model.specs.Rows.{answer-of}
 use Rattle.reading.specs.Bytes.{kind-of, layout-of}
 use Rattle.format.specs.Opening.{open-rows, opening}
 use Rattle.model.proofs.Rows.{holds, skips, skipped, empty, stop, pass, passed}
@@ -18,12 +18,12 @@ use Rattle.run.specs.Running.{Lent, run-rows}
 
 -- the rows, one after the other
 module _ (f choices : List ℕ) (b : Lent) where
-  pub row-unopened : (v : Verdict) → (v ≡ Accepted → ⊥) → v ≡ opening f → v ≡ first (run-rows f choices b)
+  pub row-unopened : (v : Verdict) → (v ≡ Accepted → ⊥) → v ≡ opening f → v ≡ answer-of (run-rows f choices b)
   unfolding run-rows opening
   row-unopened v nay e = stop (open-rows f) _ v nay e
 
   module _ (e : Accepted ≡ opening f) where
-    pub row-declared : (kind-of f ≡ 2 → ⊥) → Refused 11 0 ≡ first (run-rows f choices b)
+    pub row-declared : (kind-of f ≡ 2 → ⊥) → Refused 11 0 ≡ answer-of (run-rows f choices b)
     unfolding run-rows opening
     row-declared n = pass (open-rows f) _ (Refused 11 0) e (holds _ 11 0 _ (rw (ne-eqb (kind-of f) 2 n)))
 
@@ -31,16 +31,16 @@ module _ (f choices : List ℕ) (b : Lent) where
       kind-row : not (eqb (kind-of f) 2) ≡ false
       kind-row = rw (eq-eqb (kind-of f) 2 k)
 
-      pub row-short : (ltb (length (b .host)) n || ltb (length (b .card)) n || ltb (length (b .latest)) n) ≡ true → Refused 19 0 ≡ first (run-rows f choices b)
+      pub row-short : (ltb (length (b .host)) n || ltb (length (b .card)) n || ltb (length (b .latest)) n) ≡ true → Refused 19 0 ≡ answer-of (run-rows f choices b)
       unfolding run-rows opening
       row-short t = pass (open-rows f) _ (Refused 19 0) e (skips _ 11 0 _ (Refused 19 0) kind-row (holds _ 19 0 _ (rw q at t)))
 
       module _ (t : (ltb (length (b .host)) n || ltb (length (b .card)) n || ltb (length (b .latest)) n) ≡ false) where
-        pub row-many : 65536 < length choices → Refused 20 0 ≡ first (run-rows f choices b)
+        pub row-many : 65536 < length choices → Refused 20 0 ≡ answer-of (run-rows f choices b)
         unfolding run-rows opening
         row-many h = pass (open-rows f) _ (Refused 20 0) e (skips _ 11 0 _ (Refused 20 0) kind-row (skips _ 19 0 _ (Refused 20 0) (rw q at t) (holds _ 20 0 _ (lt-ltb 65536 (length choices) h))))
 
-        pub row-none : ltb 65536 (length choices) ≡ false → Accepted ≡ first (run-rows f choices b)
+        pub row-none : ltb 65536 (length choices) ≡ false → Accepted ≡ answer-of (run-rows f choices b)
         unfolding run-rows opening
         row-none h = pass (open-rows f) _ Accepted e (skips _ 11 0 _ Accepted kind-row (skips _ 19 0 _ Accepted (rw q at t) (skips _ 20 0 _ Accepted h empty)))
 
@@ -53,7 +53,7 @@ module _ (f choices : List ℕ) (b : Lent) where
     pub latest-room : cell-count (layout-of f) ≤ length (b .latest)
     pub few : length choices ≤ 65536
 
-  pub begins : Accepted ≡ first (run-rows f choices b) → Begins
+  pub begins : Accepted ≡ answer-of (run-rows f choices b) → Begins
   unfolding run-rows opening
   begins e =
       let p = passed (open-rows f) _ e in

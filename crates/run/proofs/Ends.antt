@@ -11,14 +11,14 @@ use Rattle.model.specs.declared.Verdict.{Verdict}
 use Rattle.model.specs.declared.Verdict.the-variants.{Accepted, Stopped, Refused}
 use Rattle.model.specs.declared.Tally.{Tally}
 use Rattle.model.specs.Sides.{host, card, Layout, cell-count}
-use Rattle.model.specs.Runs.{Config, finished, stopped, out-of-choices, Ending, step, Step}
-use Rattle.model.specs.Rows.{first}
+use Rattle.model.specs.Runs.{Config, finished, stopped, out-of-choices, Ending, step, Step, proper}
+use Rattle.model.specs.Rows.{answer-of}
 use Rattle.reading.specs.Bytes.{table, layout-of, lengths-of}
 use Rattle.format.specs.Plans.{plan-of}
-use Rattle.model.proofs.Rows.{never-stops}
+use Rattle.model.proofs.Rows.{unaccepted}
 use Rattle.reading.proofs.Tables.{length-table, getD-table}
 use Rattle.model.specs.declared.End.{End}
-use Rattle.run.specs.Running.{Lent, lent, run-rows, memory, holding, no-end, end-of, Ran, RunsAs, Runs}
+use Rattle.run.specs.Running.{Lent, lent, run-rows, memory, holding, no-end, end-of, Ran, Runs}
 use Rattle.standing.specs.Choices.{choices-of}
 use Rattle.memories.specs.Memories.{number-of}
 use Rattle.memories.specs.Inner.Ranges.{Same}
@@ -63,7 +63,7 @@ module _ (f choices : List ℕ) (m : Runner) (own others latest : List ℕ) (u :
   used-is : m .place .used ≡ length (choices-of choices) - length (k .choices)
   used-is = rw (w .stands .choices-left, length-map, length-map, length-drop) (omega (arith, w .stands .used))
 
-  ran-as : (e : Ending) → step layout k ≡ Step.ends e → answer ≡ end-of layout (choices-of choices) k e → Ran f choices (lent h c l t) (lent own others latest u) answer
+  ran-as : (e : Ending) → step proper layout k ≡ Step.ends e → answer ≡ end-of layout (choices-of choices) k e → Ran f choices (lent h c l t) (lent own others latest u) answer
   unfolding plan-of
   ran-as e s a = record { config = k; ending = e; ends = record { run = w .run; last = s }; holds = last-lent; answers = a }
 
@@ -73,23 +73,18 @@ module _ (f choices : List ℕ) (m : Runner) (own others latest : List ℕ) (u :
       over : Over f k (m .verdict)
       over = rw still at (w .ended)
 
-      go : (e : Ending) → step layout k ≡ Step.ends e → answer ≡ end-with (length (layout .lengths)) (λ a. k .state .flags a .flag host) (λ a. k .state .flags a .flag card) (m .place .used) (said-of e) → Ran f choices (lent h c l t) (lent own others latest u) answer
+      go : (e : Ending) → step proper layout k ≡ Step.ends e → answer ≡ end-with (length (layout .lengths)) (λ a. k .state .flags a .flag host) (λ a. k .state .flags a .flag card) (m .place .used) (said-of e) → Ran f choices (lent h c l t) (lent own others latest u) answer
       go finished s a = ran-as finished s (a ∙ ap (λ v. end-with (length (layout .lengths)) (λ a. k .state .flags a .flag host) (λ a. k .state .flags a .flag card) v Accepted) used-is)
       go (stopped r d) s a = ran-as (stopped r d) s a
       go (out-of-choices r) s a = ran-as (out-of-choices r) s a
 
 -- a refusal before the run
 module _ (f choices : List ℕ) (b : Lent) where
-  pub runs-refused : (v : Verdict) → (v ≡ Accepted → ⊥) → v ≡ first (run-rows f choices b) → (answer : End) → answer ≡ no-end v → Runs f choices b b answer
+  pub runs-refused : (v : Verdict) → (v ≡ Accepted → ⊥) → v ≡ answer-of (run-rows f choices b) → (answer : End) → answer ≡ no-end v → Runs f choices b b answer
   unfolding Runs
-  runs-refused v nay e answer a = rw (← e) (go v nay e a)
-    where
-      go : (v : Verdict) → (v ≡ Accepted → ⊥) → v ≡ first (run-rows f choices b) → answer ≡ no-end v → RunsAs f choices b b answer v
-      go Accepted nay e a = absurd (nay refl)
-      go (Stopped r c) nay e a = never-stops (run-rows f choices b) r c e
-      go (Refused number place) nay e a = (refl, a)
+  runs-refused v nay e answer a = rw (← e, unaccepted v nay) (refl, a)
 
-  pub runs-ran : Accepted ≡ first (run-rows f choices b) → (after : Lent) (answer : End) → Ran f choices b after answer → Runs f choices b after answer
+  pub runs-ran : Accepted ≡ answer-of (run-rows f choices b) → (after : Lent) (answer : End) → Ran f choices b after answer → Runs f choices b after answer
   unfolding Runs
   runs-ran e after answer r = rw (← e) r
 

@@ -1,22 +1,23 @@
 -- The run of a plan file (document 01, 'Running and viewing' and 'Numbers by the place where each is checked').
-use Prim.Native.Nat.{ℕ, _-_}
+use Prim.Native.Nat.{ℕ, _-_, _≤_}
 use mathlib.Core.Path.{_≡_}
-use mathlib.Core.Bool.{Bool, not, _||_}
+use mathlib.Core.Bool.{Bool, cond, not, _||_}
 use mathlib.Core.List.{List, [], _∷_, _++_}
-use lib.Dec.{ltb, eqb}
+use lib.Dec.{ltb}
 use lib.ListN.{length, drop}
 use Rattle.model.specs.declared.Verdict.{Verdict}
-use Rattle.model.specs.declared.Verdict.the-variants.{Accepted, Stopped, Refused}
+use Rattle.model.specs.declared.Verdict.the-variants.{Accepted, Refused}
 use Rattle.model.specs.declared.Tally.{Tally}
+use Rattle.model.specs.Lists.{how-many}
 use Rattle.model.specs.Sides.{host, card, Layout, cell-count}
 use Rattle.model.specs.Runs.{Config, Ending, finished, stopped, out-of-choices, Ends, tally}
-use Rattle.model.specs.Verdicts.{stop}
-use Rattle.model.specs.Rows.{Row, row, first}
-use Rattle.reading.specs.Bytes.{kind-of, table, layout-of}
+use Rattle.model.specs.Verdicts.{accepted, stop}
+use Rattle.model.specs.Rows.{Row, row, answer-of}
+use Rattle.reading.specs.Bytes.{is-plain, table, layout-of}
 use Rattle.format.specs.Opening.{open-rows}
 use Rattle.format.specs.Plans.{plan-of}
 use Rattle.memories.specs.Memories.{number-of}
-use Rattle.memories.specs.Flags.{mask, set-flags}
+use Rattle.memories.specs.Flags.{mask}
 use Rattle.standing.specs.Choices.{choices-of}
 use Rattle.model.specs.declared.End.{End}
 
@@ -31,14 +32,17 @@ pub record Lent : Type 0 where
 abbrev pub lent : List ℕ → List ℕ → List ℕ → Tally → Lent
 lent h c l t = record { host = h; card = c; latest = l; tally = t }
 
+-- each memory has room for n cells
+abbrev pub Roomy : ℕ → Lent → Type 0
+Roomy n memories = (n ≤ length (memories .host)) × (n ≤ length (memories .card)) × (n ≤ length (memories .latest))
+
 -- the numbers of opening, "11 .. check or run without kind 2", "19 a memory shorter than the cells; 20 over 65,536 choices"
 unfoldable pub run-rows : List ℕ → List ℕ → Lent → List Row
 run-rows f choices before =
     let n = cell-count (layout-of f) in
-    open-rows f ++ (row (not (eqb (kind-of f) 2)) 11 0
+    open-rows f ++ (row (not (is-plain f)) 11 0
     ∷ row (ltb (length (before .host)) n || ltb (length (before .card)) n || ltb (length (before .latest)) n) 19 0
-    ∷ row (ltb 65536 (length choices)) 20 0
-    ∷ [])
+    ∷ row (ltb 65536 (length choices)) 20 0 ∷ [])
 
 -- a memory whose first n cells are as `held` says: "Cells past the plan's are untouched."
 unfoldable pub memory : ℕ → (ℕ → ℕ) → List ℕ → List ℕ
@@ -69,14 +73,14 @@ end-of layout cs k finished =
       used = length cs - length (k .choices);
       «host_flags» = mask n (λ a. k .state .flags a .flag host);
       «card_flags» = mask n (λ a. k .state .flags a .flag card);
-      «on_host» = set-flags n (λ a. k .state .flags a .flag host);
-      «on_card» = set-flags n (λ a. k .state .flags a .flag card);
+      «on_host» = how-many (λ a. k .state .flags a .flag host) n;
+      «on_card» = how-many (λ a. k .state .flags a .flag card) n;
     }
 end-of layout cs k (stopped r c) = no-end (stop r c)
 end-of layout cs k (out-of-choices r) = no-end (Refused 22 r)
 
--- the run ends at a configuration in one way (model, `Endings`): "At 21 and 22 memories and tally hold the state just before the named record,
--- at done the run's last state"
+-- the run ends at a configuration in one way (model, `Endings`): "At 21 and 22 memories and tally hold the state just before the named
+-- record, at done the run's last state"
 pub record Ran (f choices : List ℕ) (before after : Lent) (answer : End) : Type 0 where
   pub config : Config
   pub ending : Ending
@@ -84,12 +88,8 @@ pub record Ran (f choices : List ℕ) (before after : Lent) (answer : End) : Typ
   pub holds : after ≡ holding (layout-of f) config before
   pub answers : answer ≡ end-of (layout-of f) (choices-of choices) config ending
 
--- by what the rows say: "Numbers 1 to 17, 19 and 20 change no buffer"
-abbrev pub RunsAs : List ℕ → List ℕ → Lent → Lent → End → Verdict → Type 0
-RunsAs f choices before after answer Accepted = Ran f choices before after answer
-RunsAs f choices before after answer (Stopped r c) = ⊥
-RunsAs f choices before after answer (Refused number place) = (after ≡ before) × (answer ≡ no-end (Refused number place))
-
--- the promise of the run: what is left in the memories and the tally, and the answer
+-- the promise of the run: what is left in the memories and the tally, and the answer; "Numbers 1 to 17, 19 and 20 change no buffer"
 unfoldable pub Runs : List ℕ → List ℕ → Lent → Lent → End → Type 0
-Runs f choices before after answer = RunsAs f choices before after answer (first (run-rows f choices before))
+Runs f choices before after answer =
+    let refusal = answer-of (run-rows f choices before) in
+    cond (accepted refusal) (Ran f choices before after answer) ((after ≡ before) × (answer ≡ no-end refusal))

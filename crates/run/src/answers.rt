@@ -3,7 +3,7 @@ ghost use mathlib.Core.Path.{_≡_};
 ghost use mathlib.Core.Bool.{Bool};
 ghost use Prim.Native.Nat.{ℕ, _≤_};
 ghost use Rattle.model.specs.declared.Tally.{Tally};
-ghost use Rattle.model.specs.Rows.{first};
+ghost use Rattle.model.specs.Rows.{answer-of};
 ghost use Rattle.format.specs.Opening.{opened};
 ghost use Rattle.memories.specs.Flags.{mask};
 ghost use Rattle.run.specs.Running.{lent, run-rows, no-end};
@@ -26,7 +26,7 @@ pub fn ready(
     choices: &[u8],
 ) -> Verdict
     requires { ⌜ o ≡ opened (now plan) ⌝ }
-    ensures { λ r. ⌜ ((t : Tally) → r ≡ first (run-rows (now (plan .entry)) (now (choices .entry)) (lent (now (host .entry)) (now (card .entry)) (now (latest .entry)) t))) ⌝ }
+    ensures { λ r. ⌜ ((t : Tally) → r ≡ answer-of (run-rows (now (plan .entry)) (now (choices .entry)) (lent (now (host .entry)) (now (card .entry)) (now (latest .entry)) t))) ⌝ }
 {
     let v = o.verdict;
     let Verdict::Accepted = v else {

@@ -15,8 +15,9 @@ use Rattle.model.specs.Effects.{start}
 use Rattle.model.specs.Runs.{Ending, stopped, here}
 use Rattle.model.proofs.Stamps.{past}
 use Rattle.model.proofs.Status.{Status, met-in, status-after}
-use Rattle.sheet.specs.Sheets.{one-cell, operations, sequences, plan-of, ending-of, stops-at, passes, count, places, figures}
-use Rattle.sheet.specs.Claims.{total, EachCounted}
+use Rattle.sheet.specs.Sheets.{one-cell, operations, sequences, sequence-plan, ending-of, stops-at, passes, count, places, figures}
+use Rattle.sheet.specs.Claims.{EachCounted}
+use Rattle.model.specs.Lists.{sum}
 use Rattle.sheet.proofs.Statuses.{sum-none, by-status, by-run, length-sequences}
 
 -- the three statuses that runs reach: the flags stay as at the start
@@ -93,11 +94,11 @@ unfolding figures
 figures-counted n = ap₂ _++_ (map-from _ _ 1 n (λ p h. run (stops-at p))) (ap (λ k. k ∷ []) (run passes)) ∙ all-weighed n 0 1 0
   where
     run : (test : Option Ending → Bool) → count (λ l. test (ending-of l)) (sequences n) ≡ weighed test n 0 1 0
-    run test = by-run test n 0 (start one-cell) [] (past (plan-of []) {cs = []} here) ∙ omega arith
+    run test = by-run test n 0 (start one-cell) [] (past (sequence-plan []) {cs = []} here) ∙ omega arith
 
-total-counted : (n one both : ℕ) → total (counted n one both) ≡ (one + both) * 6 ^ n
-total-counted zero one both = omega arith
-total-counted (suc n) one both = rw (total-counted n (3 * one + 2 * both) (one + 4 * both), pow-suc 6 n) (omega arith)
+sum-counted : (n one both : ℕ) → sum (counted n one both) ≡ (one + both) * 6 ^ n
+sum-counted zero one both = omega arith
+sum-counted (suc n) one both = rw (sum-counted n (3 * one + 2 * both) (one + 4 * both), pow-suc 6 n) (omega arith)
 
 pub each-counted : EachCounted
-each-counted n = (length-sequences n, rw (figures-counted n, total-counted n 1 0) (omega arith))
+each-counted n = (length-sequences n, rw (figures-counted n, sum-counted n 1 0) (omega arith))

@@ -6,9 +6,9 @@ use mathlib.Core.Option.{Option, none, some}
 use lib.ListN.{length}
 use Rattle.model.specs.Records.{Action}
 use Rattle.model.specs.Effects.{State, effect}
-use Rattle.model.specs.Runs.{Event, Config, Ending, finished, stopped, next, stop-or, lowest-unmet, here, onward, Run, Ends}
+use Rattle.model.specs.Runs.{Event, Config, Ending, finished, stopped, next, stop-or, lowest-unmet, here, onward, Run, Ends, proper}
 use Rattle.model.proofs.Runs.{config, event}
-use Rattle.sheet.specs.Sheets.{one-cell, records, plan-of, after-step, ending-in}
+use Rattle.sheet.specs.Sheets.{one-cell, records, sequence-plan, after-step, ending-in}
 use Rattle.sheet.specs.Claims.{AllEndSo}
 
 module _ (all : List Action) where
@@ -16,18 +16,18 @@ module _ (all : List Action) where
   record Left (l : List Action) (k : Config) : Type 0 where
     last : Config
     ending : Ending
-    ends : Ends (plan-of all) [] last ending
+    ends : Ends (sequence-plan all) [] last ending
     counted : ending-in (suc (length l)) k ≡ some ending
 
-  left : (l : List Action) (r : ℕ) (σ : State) (h : List Event) → Run (plan-of all) [] (config (records r l) [] σ h) → Left l (config (records r l) [] σ h)
+  left : (l : List Action) (r : ℕ) (σ : State) (h : List Event) → Run proper (sequence-plan all) [] (config (records r l) [] σ h) → Left l (config (records r l) [] σ h)
   unfolding ending-in
   left [] r σ h run = record { last = _; ending = finished; ends = record { run = run; last = refl }; counted = refl }
-  left (x ∷ l) r σ h run = go (lowest-unmet one-cell x σ) refl (left l (suc r) (effect one-cell x σ) (event x σ ∷ h))
+  left (x ∷ l) r σ h run = go (lowest-unmet one-cell x σ) refl (left l (suc r) (effect one-cell x σ) (event r x σ ∷ h))
     where
       after : Config
-      after = config (records (suc r) l) [] (effect one-cell x σ) (event x σ ∷ h)
+      after = config (records (suc r) l) [] (effect one-cell x σ) (event r x σ ∷ h)
 
-      go : (o : Option ℕ) → lowest-unmet one-cell x σ ≡ o → (Run (plan-of all) [] after → Left l after) → Left (x ∷ l) (config (records r (x ∷ l)) [] σ h)
+      go : (o : Option ℕ) → lowest-unmet one-cell x σ ≡ o → (Run proper (sequence-plan all) [] after → Left l after) → Left (x ∷ l) (config (records r (x ∷ l)) [] σ h)
       go none q more =
           let m = more (onward run (ap (λ o. stop-or r o (next after)) q)) in
           record { last = m .last; ending = m .ending; ends = m .ends; counted = ap (λ o. after-step (ending-in (suc (length l))) (stop-or r o (next after))) q ∙ m .counted }

@@ -10,7 +10,7 @@ use lib.Seq.{take-suc-set, drop-set-lt, drop-drop, append-snoc, set-split}
 use lib.Dec.{ltb}
 use borrow.Author.Tests.{lt-ltb, le-ltb, ltb-false}
 use Rattle.model.specs.declared.Verdict.the-variants.{Accepted, Refused}
-use Rattle.model.specs.Rows.{first}
+use Rattle.model.specs.Rows.{answer-of}
 use Rattle.model.proofs.Rows.{skipped}
 use Rattle.sheet.specs.Sheets.{sheet-answer, sheet-figures, figures as figures-of}
 use Rattle.sheet.proofs.Counting.{counted, figures-counted}
@@ -112,7 +112,7 @@ module _ (n : ℕ) (before : List ℕ) (r one both rest : ℕ) (figures : List �
     back-last = rw (add-one, ends) at (drop-more figures before r (f .back))
 
     pub filled-last : set figures n (one + both) ≡ sheet-figures n before
-    unfolding sheet-figures sheet-answer first
+    unfolding sheet-figures sheet-answer answer-of
     filled-last =
         rw (le-ltb 24 n (f .small))
         (set-split figures n (one + both) (omega (arith, f .same, f .room))
@@ -120,11 +120,11 @@ module _ (n : ℕ) (before : List ℕ) (r one both rest : ℕ) (figures : List �
 
 -- 38, with all figures as they were, and else accepted
 pub above : (n : ℕ) (before : List ℕ) → 24 < n → (Refused 38 0 ≡ sheet-answer n) × (before ≡ sheet-figures n before)
-unfolding sheet-figures sheet-answer first
+unfolding sheet-figures sheet-answer answer-of
 above n before h = rw (lt-ltb 24 n h) (refl, refl)
 
 pub up-to : (n : ℕ) → n ≤ 24 → Accepted ≡ sheet-answer n
-unfolding sheet-answer first
+unfolding sheet-answer answer-of
 up-to n h = rw (le-ltb 24 n h)
 
 pub answered : (n : ℕ) → Accepted ≡ sheet-answer n → n ≤ 24
@@ -137,7 +137,7 @@ length-counted (suc n) one both = ap suc (length-counted n (3 * one + 2 * both) 
 
 -- no figure more and none less
 pub kept : (n : ℕ) (before : List ℕ) → n ≤ 24 → n < length before → length (sheet-figures n before) ≡ length before
-unfolding sheet-figures sheet-answer first
+unfolding sheet-figures sheet-answer answer-of
 kept n before h l =
     rw (le-ltb 24 n h)
     (simp (length-append, length-drop, figures-counted n, length-counted n 1 0) (omega arith))

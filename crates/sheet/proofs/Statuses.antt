@@ -80,14 +80,14 @@ module _ (test : Option Ending → Bool) where
       count (λ l. test (ending-in (suc (length l)) (config (records r l) [] σ h))) (sequences n) ≡ by-status n r (status-of one-cell 0 σ)
   unfolding sequences ending-in
   by-run zero r σ h p = refl
-  by-run (suc n) r σ h p = count-first _ n ∙ sum-same _ _ (λ x. each x (by-run n (suc r) (effect one-cell x σ) (event x σ ∷ h) (past-effect one-cell x σ p))) operations
+  by-run (suc n) r σ h p = count-first _ n ∙ sum-same _ _ (λ x. each x (by-run n (suc r) (effect one-cell x σ) (event r x σ ∷ h) (past-effect one-cell x σ p))) operations
     where
       u : Status
       u = status-of one-cell 0 σ
 
       -- a sequence that begins with x, by whether x is met
       ending : Action → Bool → List Action → Option Ending
-      ending x b l = after-step (ending-in (suc (length l))) (stop-or r (cond b none (some 0)) (next (config (records (suc r) l) [] (effect one-cell x σ) (event x σ ∷ h))))
+      ending x b l = after-step (ending-in (suc (length l))) (stop-or r (cond b none (some 0)) (next (config (records (suc r) l) [] (effect one-cell x σ) (event r x σ ∷ h))))
 
       each : (x : Action) → count (λ l. test (ending x true l)) (sequences n) ≡ by-status n (suc r) (status-of one-cell 0 (effect one-cell x σ)) →
           count (λ l. test (ending x (met one-cell x σ 0) l)) (sequences n) ≡

@@ -1,12 +1,13 @@
 -- What is proved of the sheets, besides the contract of `sheet`.
-use Prim.Native.Nat.{ℕ, _+_, _^_}
+use Prim.Native.Nat.{ℕ, _^_}
 use mathlib.Core.Path.{_≡_}
 use mathlib.Core.List.{List, [], _∷_}
 use mathlib.Core.Option.{some}
 use lib.ListN.{length}
+use Rattle.model.specs.Lists.{sum}
 use Rattle.model.specs.Records.{Action}
 use Rattle.model.specs.Runs.{Config, Ending, Ends}
-use Rattle.sheet.specs.Sheets.{sequences, plan-of, ending-of, figures}
+use Rattle.sheet.specs.Sheets.{sequences, sequence-plan, ending-of, figures}
 
 -- CLAIM (proofs/Examples, `sheet-0`): "For length n from 0": the empty sequence passes
 abbrev pub Sheet0 : Type 0
@@ -24,18 +25,13 @@ Sheet2 = figures 2 ≡ 12 ∷ 6 ∷ 18 ∷ []
 pub record EndsSo (l : List Action) : Type 0 where
   pub last : Config
   pub ending : Ending
-  pub ends : Ends (plan-of l) [] last ending
+  pub ends : Ends (sequence-plan l) [] last ending
   pub counted : ending-of l ≡ some ending
 
 -- CLAIM (proofs/Endings, `ends-so`): "Each figure equals the number of sequences that the definition of a run puts there."
 abbrev pub AllEndSo : Type 0
 AllEndSo = (l : List Action) → EndsSo l
 
--- the sum of a list
-abbrev pub total : List ℕ → ℕ
-total [] = 0
-total (k ∷ l) = k + total l
-
 -- CLAIM (proofs/Counting, `each-counted`): "the 6^n sequences": there are so many, and each is counted in one figure
 abbrev pub EachCounted : Type 0
-EachCounted = (n : ℕ) → (length (sequences n) ≡ 6 ^ n) × (total (figures n) ≡ 6 ^ n)
+EachCounted = (n : ℕ) → (length (sequences n) ≡ 6 ^ n) × (sum (figures n) ≡ 6 ^ n)

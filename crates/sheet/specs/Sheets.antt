@@ -6,12 +6,12 @@ use mathlib.Core.Option.{Option, none, some}
 use lib.ListN.{length, drop}
 use lib.Dec.{eqb, ltb}
 use Rattle.model.specs.declared.Verdict.{Verdict}
-use Rattle.model.specs.declared.Verdict.the-variants.{Accepted, Stopped, Refused}
-use Rattle.model.specs.Rows.{row, first}
+use Rattle.model.specs.Verdicts.{accepted}
+use Rattle.model.specs.Rows.{row, answer-of}
 use Rattle.model.specs.Sides.{host, card, Layout}
 use Rattle.model.specs.Records.{read, write, copy, Action}
 use Rattle.model.specs.Blocks.{Block, done, act, Plan}
-use Rattle.model.specs.Runs.{Config, Ending, finished, stopped, out-of-choices, Step, next, ends, step, begin}
+use Rattle.model.specs.Runs.{Config, Ending, finished, stopped, out-of-choices, Step, next, ends, proper, step, begin}
 use Rattle.model.specs.Cases.{_on_}
 
 -- "over one cell": one array of one cell
@@ -33,8 +33,8 @@ records r [] = done
 records r (x ∷ l) = act r x (records (suc r) l)
 
 -- the plan of a sequence
-abbrev pub plan-of : List Action → Plan
-plan-of l = record { layout = one-cell; body = records 0 l }
+abbrev pub sequence-plan : List Action → Plan
+sequence-plan l = record { layout = one-cell; body = records 0 l }
 
 -- a step leads on, or the run has ended
 abbrev pub after-step : (Config → Option Ending) → Step → Option Ending
@@ -44,11 +44,11 @@ after-step more (ends e) = some e
 -- how a run ends, by the definition's own step, if it does so in n steps
 unfoldable pub ending-in : ℕ → Config → Option Ending
 ending-in zero k = none
-ending-in (suc n) k = after-step (ending-in n) (step one-cell k)
+ending-in (suc n) k = after-step (ending-in n) (step proper one-cell k)
 
 -- how the run of a sequence "from the usual start" ends: it makes no choice, and takes a step for each record and one for the end
 abbrev pub ending-of : List Action → Option Ending
-ending-of l = ending-in (suc (length l)) (begin (plan-of l) [])
+ending-of l = ending-in (suc (length l)) (begin (sequence-plan l) [])
 
 -- whether a run has stopped at place p: places count from 1, records from 0
 abbrev pub stops-at : ℕ → Option Ending → Bool
@@ -82,13 +82,8 @@ figures n =
 
 -- "38: n above 24"
 unfoldable pub sheet-answer : ℕ → Verdict
-sheet-answer n = first (row (ltb 24 n) 38 0 ∷ [])
+sheet-answer n = answer-of (row (ltb 24 n) 38 0 ∷ [])
 
 -- the lent figures afterwards: the sheet's first, the others as they were; at a refusal all as they were
-abbrev pub written : ℕ → List ℕ → Verdict → List ℕ
-written n before Accepted = figures n ++ drop (suc n) before
-written n before (Stopped r c) = before
-written n before (Refused number place) = before
-
 unfoldable pub sheet-figures : ℕ → List ℕ → List ℕ
-sheet-figures n before = written n before (sheet-answer n)
+sheet-figures n before = cond (accepted (sheet-answer n)) (figures n ++ drop (suc n) before) before

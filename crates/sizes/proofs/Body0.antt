@@ -14,7 +14,7 @@ use Rattle.reading.specs.declared.Fields.{Fields}
 use Rattle.reading.specs.Bytes.{kind-of, body-count, records-in, sizes-of, first-record, record-count, bodies-at, fields-at}
 use Rattle.reading.specs.Inner.Places.{Inside}
 use Rattle.contents.specs.declared.Opened.{Opened}
-use Rattle.contents.specs.Found.{found}
+use Rattle.contents.specs.Inner.Findings.{found}
 use Rattle.contents.proofs.Found.{body-start}
 use Rattle.rules.specs.Rules.{allowed}
 use Rattle.reading.proofs.Ranges.{of-range}

@@ -1,5 +1,5 @@
 -- What stands for a call of a pass: what its declarations give, and its other records.
-use mathlib.Core.Path.{_≡_, refl, sym, ap, _∙_}
+use mathlib.Core.Path.{_≡_, refl, ap, _∙_}
 use mathlib.Core.List.{List, _++_, append-assoc}
 use Prim.Native.Nat.{ℕ, suc, _+_, _-_, _≤_, _<_}
 use native.Nat.{ℕᴺ-discrete}
@@ -10,12 +10,12 @@ use borrow.Author.Tests.{ne-eqb}
 use Rattle.model.specs.Blocks.{size}
 use Rattle.reading.specs.Bytes.{kind-of, body-count, table, records-in, declarations-in, sizes-of, first-record, fields-at, first-arm, second-arm}
 use Rattle.contents.specs.declared.Opened.{Opened}
-use Rattle.contents.specs.Found.{found}
+use Rattle.contents.specs.Inner.Findings.{found}
 use Rattle.passes.specs.declared.Extent.{Extent}
 use Rattle.passes.specs.Inner.Passes.{extent-of, PassAt}
 use Rattle.passes.proofs.Records.{stands}
 use Rattle.format.specs.Plans.{pass-at}
-use Rattle.files.specs.Files.{block-fields}
+use Rattle.files.specs.Inner.Short.{block-fields}
 use Rattle.format.specs.Inner.Walks.{block-between}
 use Rattle.reading.proofs.Tables.{length-table, next-record, first-rises}
 use Rattle.format.proofs.Walking.{Facts, opened-facts, good-parts}

@@ -11,7 +11,8 @@ use Rattle.model.specs.Blocks.{Block, size}
 use Rattle.reading.specs.declared.Fields.{Fields}
 use Rattle.reading.specs.Bytes.{fields-at, first-arm, second-arm}
 use Rattle.rules.specs.Rules.{fields-fit, allowed}
-use Rattle.files.specs.Files.{fields, block-fields}
+use Rattle.files.specs.Files.{fields}
+use Rattle.files.specs.Inner.Short.{block-fields}
 use Rattle.format.specs.Inner.Walks.{Good}
 use Rattle.format.proofs.Walking.{good-parts}
 use Rattle.format.proofs.Trees.{no-arms}

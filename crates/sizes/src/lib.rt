@@ -5,7 +5,7 @@ ghost use lib.ListN.{getD};
 ghost use Rattle.model.specs.Blocks.{size};
 ghost use Rattle.reading.specs.Bytes.{body-count, records-in, bodies-at};
 ghost use Rattle.reading.specs.Inner.Places.{Inside};
-ghost use Rattle.contents.specs.Found.{found};
+ghost use Rattle.contents.specs.Inner.Findings.{found};
 ghost use Rattle.files.specs.Inner.Given.{given-by, declared-from};
 ghost use Rattle.sizes.specs.Inner.Sizes.{DeclaredFile, called, record-size, PassSizes, Places};
 use contents::Opened;

@@ -3,7 +3,7 @@ ghost use mathlib.Core.Path.{_≡_};
 ghost use mathlib.Core.Logic.{_⊎_};
 ghost use mathlib.Core.Bool.{true, false, not};
 ghost use Prim.Native.Nat.{_≤_, _<_};
-ghost use Rattle.model.proofs.Status.{Status};
+ghost use Rattle.model.specs.Inner.Statuses.{Status};
 ghost use Rattle.format.specs.Plans.{side-of, verb-of};
 ghost use Rattle.statuses.specs.Inner.Sets.{statuses, index, In, touched-met, touched-after};
 ghost use Rattle.statuses.specs.Inner.Ran.{Ran};

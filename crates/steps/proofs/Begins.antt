@@ -13,7 +13,7 @@ use Rattle.model.proofs.Stamps.{past}
 use Rattle.model.proofs.Through.{then-done}
 use Rattle.reading.specs.Bytes.{kind-of, layout-of, array-count, record-count, lengths-of}
 use Rattle.contents.specs.declared.Opened.{Opened}
-use Rattle.contents.specs.Found.{found}
+use Rattle.contents.specs.Inner.Findings.{found}
 use Rattle.format.specs.Plans.{plan-of}
 use Rattle.format.specs.Inner.Walks.{Plain, Starts, block-between}
 use Rattle.reading.proofs.Tables.{arrays-counted}

@@ -9,11 +9,12 @@ use lib.Dec.{ltb, leb, eqb}
 use lib.ListN.{length, getD, take, drop}
 use borrow.Author.Tests.{eq-eqb, ne-eqb, eqb-true, eqb-false, leb-false, ltb-false}
 use Rattle.model.specs.declared.Verdict.{Verdict}
-use Rattle.model.specs.declared.Verdict.the-variants.{Accepted, Stopped, Refused}
+use Rattle.model.specs.declared.Verdict.the-variants.{Accepted, Refused}
 use Rattle.model.proofs.Booleans.{or-none, and-out}
-use Rattle.model.proofs.Rows.{holds, skips, skipped, empty}
+use Rattle.model.proofs.Rows.{unaccepted, holds, skips, skipped, empty}
+use Rattle.model.specs.Verdicts.{accepted}
 use Rattle.model.specs.declared.View.{View}
-use Rattle.view.specs.Viewing.{all-current, memory-view-answer, viewed-side, viewed-place, viewed, memory-view, view-by, memory-side}
+use Rattle.view.specs.Viewing.{all-current, memory-view-answer, viewed-side, viewed-place, memory-view, memory-side}
 use Rattle.memories.specs.Inner.Ranges.{FirstStale}
 
 -- n cells from c on are all current exactly if each of them is
@@ -73,7 +74,8 @@ module _ (host card latest : List ℕ) (from end : ℕ) where
   abbrev on-card : Bool
   on-card = all-current card latest from (end - from)
 
-  by-answer : (v : Verdict) → v ≡ memory-view-answer host card latest from end → view-by (viewed-side host latest from end) v ≡ memory-side host card latest from end
+  by-answer : (v : Verdict) → v ≡ memory-view-answer host card latest from end →
+      record { verdict = v; side = cond (accepted v) (viewed-side host latest from end) 0 } ≡ memory-side host card latest from end
   unfolding memory-side
   by-answer v e = rw e
 
@@ -98,22 +100,12 @@ module _ (host card latest : List ℕ) (from end : ℕ) where
   -- the answer that comes with the side
   pub answer-of : (r : View) → r ≡ memory-side host card latest from end → r .verdict ≡ memory-view-answer host card latest from end
   unfolding memory-side
-  answer-of r e = ap (λ (x : View). x .verdict) e ∙ go (memory-view-answer host card latest from end)
-    where
-      go : (v : Verdict) → view-by (viewed-side host latest from end) v .verdict ≡ v
-      go Accepted = refl
-      go (Stopped n c) = refl
-      go (Refused n p) = refl
+  answer-of r e = ap (λ (x : View). x .verdict) e
 
   -- the part: none, or of one side's memory, in which it lies
   pub part-none : (v : Verdict) → (v ≡ Accepted → ⊥) → v ≡ memory-view-answer host card latest from end → [] ≡ memory-view host card latest from end
   unfolding memory-view
-  part-none v nay e = rw (← e) (go v nay)
-    where
-      go : (v : Verdict) → (v ≡ Accepted → ⊥) → [] ≡ viewed host card (viewed-side host latest from end) from end v
-      go Accepted nay = absurd (nay refl)
-      go (Stopped n c) nay = refl
-      go (Refused n p) nay = refl
+  part-none v nay e = rw (← e, unaccepted v nay)
 
   module _ (e : Accepted ≡ memory-view-answer host card latest from end) where
     pub part-inside : Inside

@@ -5,9 +5,9 @@ use mathlib.Core.List.{List, [], _∷_}
 use lib.Dec.{ltb, leb, eqb}
 use lib.ListN.{length, getD, take, drop}
 use Rattle.model.specs.declared.Verdict.{Verdict}
-use Rattle.model.specs.declared.Verdict.the-variants.{Accepted, Stopped, Refused}
 use Rattle.model.specs.Lists.{further}
-use Rattle.model.specs.Rows.{row, first}
+use Rattle.model.specs.Verdicts.{accepted}
+use Rattle.model.specs.Rows.{row, answer-of}
 use Rattle.model.specs.declared.View.{View}
 
 -- "A copy is current if it equals the latest stamp": n cells from cell c on are all current in a memory
@@ -18,9 +18,8 @@ all-current copies latest c (suc n) = eqb (getD copies c 0) (getD latest c 0) &&
 -- "a companion answer gives its number": "23 first not below end, or end past the shortest memory; 24 neither side wholly current"
 unfoldable pub memory-view-answer : List ℕ → List ℕ → List ℕ → ℕ → ℕ → Verdict
 memory-view-answer host card latest from end =
-    first (row (leb end from || ltb (min (length host) (min (length card) (length latest))) end) 23 0
-    ∷ row (not (all-current host latest from (end - from)) && not (all-current card latest from (end - from))) 24 0
-    ∷ [])
+    answer-of (row (leb end from || ltb (min (length host) (min (length card) (length latest))) end) 23 0
+    ∷ row (not (all-current host latest from (end - from)) && not (all-current card latest from (end - from))) 24 0 ∷ [])
 
 -- "a part of the host memory or of the card memory, the host's if all its cells are current, else the card's": the side
 unfoldable pub viewed-side : List ℕ → List ℕ → ℕ → ℕ → ℕ
@@ -30,22 +29,14 @@ viewed-side host latest from end = cond (all-current host latest from (end - fro
 abbrev pub viewed-place : ℕ × ℕ → ℕ × ℕ → ℕ → ℕ → ℕ × ℕ
 viewed-place host-begins card-begins side from = further (cond (eqb side 0) host-begins card-begins) (8 * from)
 
--- "A refused view is empty"
-abbrev pub viewed : List ℕ → List ℕ → ℕ → ℕ → ℕ → Verdict → List ℕ
-viewed host card side from end Accepted = take (end - from) (drop from (cond (eqb side 0) host card))
-viewed host card side from end (Stopped r c) = []
-viewed host card side from end (Refused number place) = []
-
--- the memory view, whatever the memories and the cells
+-- the memory view, whatever the memories and the cells; "A refused view is empty"
 unfoldable pub memory-view : List ℕ → List ℕ → List ℕ → ℕ → ℕ → List ℕ
-memory-view host card latest from end = viewed host card (viewed-side host latest from end) from end (memory-view-answer host card latest from end)
+memory-view host card latest from end =
+    cond (accepted (memory-view-answer host card latest from end))
+    (take (end - from) (drop from (cond (eqb (viewed-side host latest from end) 0) host card))) []
 
--- the answer with the side, 0 at a refusal
-abbrev pub view-by : ℕ → Verdict → View
-view-by side Accepted = record { verdict = Accepted; side = side }
-view-by side (Stopped r c) = record { verdict = Stopped r c; side = 0 }
-view-by side (Refused number place) = record { verdict = Refused number place; side = 0 }
-
--- the answer and the side, whatever the memories and the cells
+-- the answer and the side, 0 at a refusal
 unfoldable pub memory-side : List ℕ → List ℕ → List ℕ → ℕ → ℕ → View
-memory-side host card latest from end = view-by (viewed-side host latest from end) (memory-view-answer host card latest from end)
+memory-side host card latest from end =
+    let v = memory-view-answer host card latest from end in
+    record { verdict = v; side = cond (accepted v) (viewed-side host latest from end) 0 }

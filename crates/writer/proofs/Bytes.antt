@@ -8,7 +8,8 @@ use lib.ListN.{length, take, drop, length-drop}
 use lib.Seq.{take-suc, getD-drop, take-add, drop-drop, drop-at, length-take-le}
 use Rattle.reading.specs.declared.Fields.{Fields}
 use Rattle.reading.specs.Bytes.{byte-at, u16-at, table, array-count, length-at, bodies-at, fields-at, lengths-of}
-use Rattle.files.specs.Files.{u16-bytes, record-bytes, joined}
+use Rattle.files.specs.Files.{u16-bytes, record-bytes}
+use Rattle.model.specs.Lists.{chain}
 use Rattle.given.specs.Inner.Over.{bytes-of}
 use Rattle.given.proofs.Records.{joined-append, bytes-append}
 
@@ -21,7 +22,7 @@ bytes-from f i (suc n) h =
 
 -- entries of equal width, each with the bytes that stand at its place
 module _ {A : Type 0} (f : List ℕ) (g : A → List ℕ) (h : ℕ → A) (w s : ℕ) where
-  joined-table : (n : ℕ) → ((i : ℕ) → i < n → g (h i) ≡ take w (drop (s + w * i) f)) → joined g (table h n) ≡ take (w * n) (drop s f)
+  joined-table : (n : ℕ) → ((i : ℕ) → i < n → g (h i) ≡ take w (drop (s + w * i) f)) → chain g (table h n) ≡ take (w * n) (drop s f)
   unfolding table
   joined-table zero e = rw mul-zero
   joined-table (suc n) e =
@@ -40,7 +41,7 @@ module _ (f : List ℕ) (small : (i : ℕ) → byte-at f i < 256) where
   unfolding length-at table
   length-again a h = rw (u16-low (4 + 2 * a), u16-high (4 + 2 * a)) (rw add-zero at (bytes-from f (4 + 2 * a) 2 h))
 
-  pub lengths-again : 4 + 2 * array-count f ≤ length f → joined u16-bytes (lengths-of f) ≡ take (2 * array-count f) (drop 4 f)
+  pub lengths-again : 4 + 2 * array-count f ≤ length f → chain u16-bytes (lengths-of f) ≡ take (2 * array-count f) (drop 4 f)
   unfolding lengths-of
   lengths-again h = joined-table f u16-bytes (length-at f) 2 4 (array-count f) (λ a l. length-again a (omega arith))
 

@@ -1,6 +1,6 @@
 -- The expansion is what stands for the records of body 0, one after the other.
 use mathlib.Core.Path.{_≡_, refl, sym, ap, _∙_}
-use mathlib.Core.List.{List, [], _∷_, _++_, append-assoc}
+use mathlib.Core.List.{List, _++_, append-assoc}
 use Prim.Native.Nat.{ℕ, zero, suc, _+_, _-_, _≤_, _<_}
 use native.Nat.{ℕᴺ-discrete}
 use native.Mathlib.Omega.{arith}
@@ -8,11 +8,12 @@ use lib.ListN.{getD}
 use borrow.Author.Tests.{ne-eqb}
 use Rattle.model.specs.Records.{Action}
 use Rattle.model.specs.Blocks.{Block, size, _then_, numbered}
-use Rattle.model.specs.Judging.{Pass, no-pass, pass-of}
-use Rattle.model.specs.Expanding.{declared, expand}
+use Rattle.model.specs.Judging.{Pass, pass-of}
+use Rattle.model.specs.Expanding.{expand}
+use Rattle.model.specs.Inner.Declared.{no-pass, declared}
 use Rattle.reading.specs.Bytes.{kind-of, body-count, records-in, fields-at, second-arm}
 use Rattle.format.specs.Plans.{pass-at, declared-plan-of}
-use Rattle.files.specs.Files.{block-fields}
+use Rattle.files.specs.Inner.Short.{block-fields}
 use Rattle.format.specs.Inner.Walks.{body0-between}
 use Rattle.reading.proofs.Tables.{getD-table}
 use Rattle.format.proofs.Walking.{Facts, opened-facts, good-parts}
@@ -28,9 +29,7 @@ use Rattle.writer.proofs.Pieces.{piece-call, piece-nested, pieces-none,
 
 -- a call's pass
 pass-entry : (ps : List Pass) (b : ℕ) → pass-of ps (suc b) ≡ getD ps b no-pass
-pass-entry [] b = refl
-pass-entry (p ∷ ps) zero = refl
-pass-entry (p ∷ ps) (suc b) = pass-entry ps b
+pass-entry ps b = let e : suc b - 1 ≡ b = omega arith in rw e
 
 module _ (f : List ℕ) (file : DeclaredFile f) where
   abbrev w : Facts f

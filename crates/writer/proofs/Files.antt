@@ -11,7 +11,8 @@ use Rattle.reading.specs.declared.Fields.{Fields}
 use Rattle.reading.specs.Bytes.{byte-at, array-count, layout-of, entry-at, records-in}
 use Rattle.sums.specs.Sums.{check-bytes}
 use Rattle.format.specs.Plans.{declared-plan-of}
-use Rattle.files.specs.Files.{u16-bytes, record-bytes, Body, joined, front, file}
+use Rattle.files.specs.Files.{u16-bytes, record-bytes, Body, front, file}
+use Rattle.model.specs.Lists.{chain}
 use Rattle.reading.proofs.Tables.{arrays-counted}
 use Rattle.format.proofs.Walking.{opened-facts}
 use Rattle.files.proofs.RoundTrip.{plain-length}
@@ -62,9 +63,9 @@ module _ (layout : Layout) (l : List Fields) where
   body = record { declarations = 0; records = l }
 
   abbrev summed : List ℕ
-  summed = (((2 ∷ length (layout .lengths) ∷ 1 ∷ 0 ∷ []) ++ joined u16-bytes (layout .lengths)) ++ (u16-bytes (length l) ++ (0 ∷ 0 ∷ []))) ++ bytes-of l
+  summed = (((2 ∷ length (layout .lengths) ∷ 1 ∷ 0 ∷ []) ++ chain u16-bytes (layout .lengths)) ++ (u16-bytes (length l) ++ (0 ∷ 0 ∷ []))) ++ bytes-of l
 
-  plain-summed : summed ≡ front 2 layout (body ∷ []) ++ joined (λ (b : Body). joined record-bytes (b .records)) (body ∷ [])
+  plain-summed : summed ≡ front 2 layout (body ∷ []) ++ chain (λ (b : Body). chain record-bytes (b .records)) (body ∷ [])
   unfolding bytes-of
   plain-summed = simp (append-nil, append-assoc)
 

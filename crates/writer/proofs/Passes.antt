@@ -7,7 +7,7 @@ use lib.ListN.{length, take, drop}
 use borrow.Rule.Slice.PartMut.{midOf, putMid}
 use Rattle.model.specs.Blocks.{size}
 use Rattle.reading.specs.Bytes.{byte-at, kind-of, body-count, records-in, declarations-in, sizes-of, first-record, record-count, bodies-at}
-use Rattle.files.specs.Files.{block-fields}
+use Rattle.files.specs.Inner.Short.{block-fields}
 use Rattle.files.specs.Inner.Given.{declared-from}
 use Rattle.format.specs.Inner.Walks.{block-between}
 use Rattle.reading.proofs.Tables.{next-record, first-rises}

@@ -5,13 +5,14 @@ use Prim.Native.Nat.{ℕ, zero, suc, _+_, _*_, _-_, _≤_, _<_}
 use native.Nat.{ℕᴺ-discrete}
 use native.Mathlib.Numerals.{add-one}
 use native.Mathlib.Omega.{arith}
-use lib.ListN.{length, getD, length-append}
+use lib.ListN.{length, length-append}
 use borrow.Rule.Slice.PartMut.{midOf, putMid}
 use borrow.Author.Tests.{eq-eqb, ne-eqb}
 use Rattle.model.specs.Blocks.{size}
 use Rattle.reading.specs.declared.Fields.{Fields}
 use Rattle.reading.specs.Bytes.{body-count, records-in, fields-at, first-arm, second-arm}
-use Rattle.files.specs.Files.{record-bytes, fields, block-fields}
+use Rattle.files.specs.Files.{record-bytes, fields}
+use Rattle.files.specs.Inner.Short.{block-fields}
 use Rattle.files.proofs.Files.Records.{fields-count}
 use Rattle.sizes.specs.Inner.Sizes.{DeclaredFile, called, record-size, place, Places}
 use Rattle.given.specs.Inner.Over.{over, bytes-of}

@@ -10,8 +10,7 @@ use Rattle.model.specs.Sides.{Side, host, card, other, Layout, cell-count, span
 use Rattle.model.specs.Records.{Verb, Action, covers, cover-count}
 use Rattle.model.specs.Effects.{State, effect}
 use Rattle.model.specs.Runs.{Event, lowest-unmet, tally}
-use Rattle.model.proofs.Runs.{event}
-use Rattle.model.proofs.Stamps.{Past}
+use Rattle.model.specs.Inner.Events.{event, Past}
 use Rattle.acts.specs.declared.Stored.{Stored}
 use Rattle.acts.specs.declared.Acted.{Acted}
 use Rattle.acts.specs.declared.Acted.the-variants.{Done, Unmet}
@@ -89,9 +88,9 @@ BothSetAs (Done s) a (Unmet c) = ⊥
 BothSetAs (Unmet c) a (Done s) = ⊥
 BothSetAs (Unmet c) a (Unmet c′) = c′ ≡ c
 
--- what a record with the action y did, seen from side t: it acted, or it is unmet and nothing has changed
+-- what a record with the action y did, whatever its number, seen from side t: it acted, or it is unmet and nothing has changed
 abbrev pub FollowsAs : Layout → Action → Side → State → List Event → List ℕ → List ℕ → List ℕ → Acted → List ℕ → List ℕ → Type 0
-FollowsAs layout y t σ l own others latest (Done s) own′ latest′ = (lowest-unmet layout y σ ≡ none) × Holds layout t s own′ others latest′ (effect layout y σ) (event y σ ∷ l)
+FollowsAs layout y t σ l own others latest (Done s) own′ latest′ = (lowest-unmet layout y σ ≡ none) × Holds layout t s own′ others latest′ (effect layout y σ) (event 0 y σ ∷ l)
 FollowsAs layout y t σ l own others latest (Unmet c) own′ latest′ = (lowest-unmet layout y σ ≡ some (c .0)) × (own′ ≡ own) × (latest′ ≡ latest)
 
 -- whatever state the memories, flags and tally held
@@ -100,7 +99,7 @@ Follows layout y t s own others latest r own′ latest′ = (σ : State) (l : Li
 
 -- the same of both sides' memories, seen from the host
 abbrev pub ActsAs : Layout → Action → State → List Event → List ℕ → List ℕ → List ℕ → Acted → List ℕ → List ℕ → List ℕ → Type 0
-ActsAs layout y σ l own others latest (Done s) own′ others′ latest′ = (lowest-unmet layout y σ ≡ none) × Holds layout host s own′ others′ latest′ (effect layout y σ) (event y σ ∷ l)
+ActsAs layout y σ l own others latest (Done s) own′ others′ latest′ = (lowest-unmet layout y σ ≡ none) × Holds layout host s own′ others′ latest′ (effect layout y σ) (event 0 y σ ∷ l)
 ActsAs layout y σ l own others latest (Unmet c) own′ others′ latest′ = (lowest-unmet layout y σ ≡ some (c .0)) × (own′ ≡ own) × (others′ ≡ others) × (latest′ ≡ latest)
 
 -- whatever state the memories, flags and tally held

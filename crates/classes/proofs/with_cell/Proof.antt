@@ -1,5 +1,4 @@
 -- `with_cell` gives the answer for one cell more.
-use mathlib.Core.Path.{sym}
 use native.Mathlib.Omega.{arith}
 use Rattle.classes.proofs.More.{cell-lower, cell-kept}
 use Rattle.classes.proofs.with_cell.Statement.{statement}

@@ -10,8 +10,8 @@ use lib.ListN.{length}
 use Rattle.model.specs.Lists.{sum-before}
 use Rattle.model.specs.declared.Verdict.the-variants.{Accepted}
 use Rattle.model.specs.Sides.{span-of}
-use Rattle.model.specs.Rows.{first, each}
-use Rattle.reading.specs.Bytes.{array-count, table, length-at, layout-of, entry-at, lengths-of}
+use Rattle.model.specs.Rows.{answer-of, all-rows}
+use Rattle.reading.specs.Bytes.{table, length-at, layout-of, entry-at, lengths-of}
 use Rattle.contents.specs.Contents.{array-rows}
 use Rattle.model.proofs.Rows.{each-none, each-more}
 use Rattle.reading.proofs.Tables.{filled-first, filled-next, first-zero, all-cells}
@@ -25,7 +25,7 @@ Inv-loop plan arrays starts₀ cells₀ a₀ starts cells a =
     (a ≤ arrays)
     × (cells ≡ span-of (layout-of plan) a .first)
     × (cells ≤ 4096)
-    × (Accepted ≡ first (each a (array-rows plan)))
+    × (Accepted ≡ answer-of (all-rows a (array-rows plan)))
     × (length starts ≡ 33)
     × (starts ≡ table (λ k. cond (leb k a) (span-of (layout-of plan) k .first) 0) 33)
 

@@ -10,9 +10,9 @@ use lib.ListN.{length}
 use borrow.Author.Tests.{not-false}
 use Rattle.model.specs.Lists.{sum-before}
 use Rattle.model.specs.declared.Verdict.the-variants.{Accepted}
-use Rattle.model.specs.Rows.{first, each}
+use Rattle.model.specs.Rows.{answer-of, all-rows}
 use Rattle.reading.specs.Bytes.{body-count, table, declarations-in, sizes-of, first-record}
-use Rattle.contents.specs.Contents.{body-rows}
+use Rattle.contents.specs.Contents.{entry-rows}
 use Rattle.model.proofs.Rows.{each-none, each-more}
 use Rattle.reading.proofs.Tables.{filled-first, filled-next, stored-next, first-zero}
 use Rattle.contents.proofs.Entries.{Walked, walk-ends, walk-stops, body-stops, body-passes, records-more}
@@ -25,7 +25,7 @@ Inv-loop plan bodies starts₀ declarations₀ records₀ b₀ starts declaratio
     (b ≤ bodies)
     × (records ≡ first-record plan b)
     × (records ≤ 1024)
-    × (Accepted ≡ first (each b (body-rows plan)))
+    × (Accepted ≡ answer-of (all-rows b (entry-rows plan)))
     × (length starts ≡ 33)
     × (length declarations ≡ 32)
     × (starts ≡ table (λ k. cond (leb k b) (first-record plan k) 0) 33)
@@ -43,7 +43,7 @@ fitted : (c : tie.After-struct-known2 Inv-loop μ-loop) → c .before .before .b
 fitted c = c .before .before .before .body-entry .ensures .1 .1 .1 (not-false _ (c .before .if1 .left))
 
 -- where the walk ends
-walked : (c : tie.After-entries-verdict Inv-loop μ-loop) → Walked (body-rows (c .before .before .before .before .before .args .plan .now)) (c .before .before .loop .b) (c .before .before .before .byte .result) (c .entries-verdict .result)
+walked : (c : tie.After-entries-verdict Inv-loop μ-loop) → Walked (entry-rows (c .before .before .before .before .before .args .plan .now)) (c .before .before .loop .b) (c .before .before .before .byte .result) (c .entries-verdict .result)
 walked c =
     let l = c .before .before in
     let v = c .entries-verdict .ensures in

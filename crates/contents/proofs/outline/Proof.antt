@@ -4,10 +4,10 @@ use Prim.Native.Nat.{_≤_}
 use native.Mathlib.Omega.{arith}
 use lib.ListN.{length}
 use Rattle.model.specs.declared.Verdict.the-variants.{Accepted}
-use Rattle.model.specs.Rows.{first, each}
+use Rattle.model.specs.Rows.{answer-of, all-rows}
 use Rattle.reading.specs.Bytes.{array-count, body-count, entry-at, record-count, bodies-at}
 use Rattle.frame.specs.Frame.{header-rows}
-use Rattle.contents.specs.Contents.{array-rows, body-rows}
+use Rattle.contents.specs.Contents.{array-rows, entry-rows}
 use Rattle.model.proofs.Rows.{refused, turned}
 use Rattle.contents.proofs.Places.{front-header, front-short, front-arrays, front-bodies, front-tail, nothing, all}
 use Rattle.contents.proofs.Bounds.{header-bounds}
@@ -16,7 +16,7 @@ use Rattle.contents.proofs.outline.Statement.{statement}
 use Rattle.contents.proofs.outline.Tie as tie
 
 -- what is known after each place
-headed : (c : tie.After-enum-told) → Accepted ≡ first (header-rows (c .before .before .before .before .args .plan .now))
+headed : (c : tie.After-enum-told) → Accepted ≡ answer-of (header-rows (c .before .before .before .before .args .plan .now))
 headed c = sym (c .enum-told .given .1) ∙ c .before .before .header .ensures
 
 offset-is : (c : tie.After-entry-at) → c .entry-at .result ≡ bodies-at (c .before .before .before .before .before .before .args .plan .now)
@@ -25,10 +25,10 @@ offset-is c = c .entry-at .ensures .0 ∙ ap (entry-at (c .before .before .befor
 within : (c : tie.Else1) → bodies-at (c .before .before .before .before .before .before .before .args .plan .now) ≤ length (c .before .before .before .before .before .before .before .args .plan .now)
 within c = rw (offset-is (c .before)) at (c .if1 .left)
 
-arrays-pass : (c : tie.After-enum-told2) → Accepted ≡ first (each (array-count (c .before .before .before .before .before .before .before .before .before .before .args .plan .now)) (array-rows (c .before .before .before .before .before .before .before .before .before .before .args .plan .now)))
+arrays-pass : (c : tie.After-enum-told2) → Accepted ≡ answer-of (all-rows (array-count (c .before .before .before .before .before .before .before .before .before .before .args .plan .now)) (array-rows (c .before .before .before .before .before .before .before .before .before .before .args .plan .now)))
 arrays-pass c = sym (c .enum-told2 .given .1) ∙ c .before .before .array-entries .ensures .0
 
-bodies-pass : (c : tie.After-enum-told3) → Accepted ≡ first (each (body-count (c .before .before .before .before .before .before .before .before .before .before .before .before .before .args .plan .now)) (body-rows (c .before .before .before .before .before .before .before .before .before .before .before .before .before .args .plan .now)))
+bodies-pass : (c : tie.After-enum-told3) → Accepted ≡ answer-of (all-rows (body-count (c .before .before .before .before .before .before .before .before .before .before .before .before .before .args .plan .now)) (entry-rows (c .before .before .before .before .before .before .before .before .before .before .before .before .before .args .plan .now)))
 bodies-pass c = sym (c .enum-told3 .given .1) ∙ c .before .before .body-entries .ensures .0
 
 records-are : (c : tie.After-enum-told3) → (c .before .before .body-entries .result .records ≡ record-count (c .before .before .before .before .before .before .before .before .before .before .before .before .before .args .plan .now)) × (c .before .before .body-entries .result .records ≤ 1024)

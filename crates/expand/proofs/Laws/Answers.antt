@@ -1,21 +1,21 @@
 -- The expander's answers: the judge's, 16, 17, accepted; and what the output then is.
-use mathlib.Core.Path.{_≡_, refl, ap, sym, _∙_}
+use mathlib.Core.Path.{_≡_, sym, _∙_}
 use mathlib.Core.List.{List}
 use Prim.Native.Nat.{ℕ, _<_, _≤_}
 use native.Mathlib.Omega.{arith}
 use lib.ListN.{length}
 use borrow.Author.Tests.{lt-ltb, le-ltb, eqb-true, not-false}
 use Rattle.model.specs.declared.Verdict.{Verdict}
-use Rattle.model.specs.declared.Verdict.the-variants.{Accepted, Stopped, Refused}
+use Rattle.model.specs.declared.Verdict.the-variants.{Accepted, Refused}
 use Rattle.model.specs.Blocks.{size}
 use Rattle.contents.specs.declared.Opened.{Opened}
-use Rattle.contents.specs.Found.{found}
+use Rattle.contents.specs.Inner.Findings.{found}
 use Rattle.format.specs.Opening.{open-rows, opening, opened}
 use Rattle.format.proofs.Walking.{verdict-is, found-is}
-use Rattle.model.proofs.Rows.{holds, skips, skipped, empty, stop, pass, passed}
+use Rattle.model.proofs.Rows.{unaccepted, holds, skips, skipped, empty, stop, pass, passed}
 use Rattle.judge.specs.Judged.{judge-rows, judged}
 use Rattle.files.specs.Expansions.{expansion-of, expansion-file}
-use Rattle.expand.specs.Expanded.{expand-answer, written, expanded}
+use Rattle.expand.specs.Expanded.{expand-answer, expanded}
 use Rattle.sizes.specs.Inner.Sizes.{DeclaredFile}
 use Rattle.given.specs.Inner.Over.{over}
 
@@ -34,12 +34,7 @@ module _ (f : List ℕ) where
     -- a refusal leaves the output as it was
     kept : (v : Verdict) → (v ≡ Accepted → ⊥) → v ≡ expand-answer f out → out ≡ expanded f out
     unfolding expanded
-    kept v nay e = unwritten v nay ∙ ap (written f out) e
-      where
-        unwritten : (v : Verdict) → (v ≡ Accepted → ⊥) → out ≡ written f out v
-        unwritten Accepted nay = absurd (nay refl)
-        unwritten (Stopped r c) nay = refl
-        unwritten (Refused number place) nay = refl
+    kept v nay e = rw (← e, unaccepted v nay)
 
     refused : {n p : ℕ} → Refused n p ≡ Accepted → ⊥
     refused h = let z : _≡_ {A = ℕ} 0 1 = cc in omega arith
@@ -62,4 +57,4 @@ module _ (f : List ℕ) where
         unfolding judged expand-answer expanded over
         expands h new e =
             let a = pass (judge-rows f) _ _ accepted (skips _ _ _ _ _ (le-ltb _ _ fits) (skips _ _ _ _ _ (le-ltb _ _ h) empty)) in
-            (a, e ∙ ap (written f out) a)
+            (a, e ∙ rw (← a))

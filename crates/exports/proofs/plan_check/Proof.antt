@@ -1,6 +1,6 @@
 -- `exports::plan_check` packs an answer of the check.
-use mathlib.Core.Path.{_∙_}
-use Rattle.exports.proofs.Packs.{of-file}
+use mathlib.Core.Path.{refl, _∙_}
+use Rattle.exports.proofs.Packs.{file-packs}
 use borrow.Author.Needs.{needs}
 use Rattle.exports.proofs.plan_check.Statement.{statement}
 use Rattle.exports.proofs.plan_check.Tie as tie
@@ -15,7 +15,7 @@ pack-answer-requires : tie.Need-pack-answer-requires
 pack-answer-requires c κs = search needs
 
 returns : tie.Need-returns
-returns c = record { answer = c .before .check-opened .result; checks = c .before .check-opened .ensures; packs = c .pack-answer .ensures ∙ of-file _ _ (c .before .before .«open» .ensures) _ _ }
+returns c = record { answer = c .before .check-opened .result; checks = c .before .check-opened .ensures; packs = c .pack-answer .ensures ∙ file-packs _ _ (c .before .before .«open» .ensures) _ _ _ refl }
 
 pub plan-check-spec : {M : Type 1} → statement M
 plan-check-spec =

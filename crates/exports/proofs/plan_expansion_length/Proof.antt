@@ -15,7 +15,7 @@ pack-length-requires : tie.Need-pack-length-requires
 pack-length-requires c κs = search needs
 
 returns : tie.Need-returns
-returns c = c .pack-length .ensures ∙ length-packs _ _ (c .before .before .«open» .ensures) _ (c .before .expansion-length .ensures)
+returns c = c .pack-length .ensures ∙ length-packs _ _ (c .before .before .«open» .ensures) _ _ (c .before .expansion-length .ensures)
 
 pub plan-expansion-length-spec : {M : Type 1} → statement M
 plan-expansion-length-spec =

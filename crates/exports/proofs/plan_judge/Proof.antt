@@ -1,6 +1,6 @@
 -- `exports::plan_judge` packs the judge's answer.
 use mathlib.Core.Path.{_∙_}
-use Rattle.exports.proofs.Packs.{judge-packs}
+use Rattle.exports.proofs.Packs.{file-packs}
 use borrow.Author.Needs.{needs}
 use Rattle.exports.proofs.plan_judge.Statement.{statement}
 use Rattle.exports.proofs.plan_judge.Tie as tie
@@ -15,7 +15,7 @@ pack-answer-requires : tie.Need-pack-answer-requires
 pack-answer-requires c κs = search needs
 
 returns : tie.Need-returns
-returns c = c .pack-answer .ensures ∙ judge-packs _ _ (c .before .before .«open» .ensures) _ (c .before .judge-opened .ensures)
+returns c = c .pack-answer .ensures ∙ file-packs _ _ (c .before .before .«open» .ensures) _ _ _ (c .before .judge-opened .ensures)
 
 pub plan-judge-spec : {M : Type 1} → statement M
 plan-judge-spec =

@@ -1,6 +1,6 @@
 -- `exports::plan_run` packs an answer of the run, and stores its tally and its figures.
-use mathlib.Core.Path.{ap, _∙_}
-use Rattle.packing.specs.Packed.{packed-answer}
+use mathlib.Core.Path.{refl, _∙_}
+use Rattle.exports.proofs.Packs.{file-packs}
 use borrow.Author.Needs.{needs}
 use Rattle.exports.proofs.plan_run.Statement.{statement}
 use Rattle.exports.proofs.plan_run.Tie as tie
@@ -38,7 +38,7 @@ same-length-3 c = search needs
 returns : tie.Need-returns
 returns c =
     let r = c .before .before .before .before .before .before .before .before .before .before .before .before .run-opened in
-    record { answer = r .result .end; runs = r .ensures; figures = c .before .put-figures .ensures; packs = c .pack-answer .ensures ∙ ap (λ k. packed-answer k 21 (r .result .end .verdict)) (ap (λ x. x .kind) (c .before .before .before .before .before .before .before .before .before .before .before .before .before .before .before .before .before .before .before .«open» .ensures)) }
+    record { answer = r .result .end; runs = r .ensures; figures = c .before .put-figures .ensures; packs = c .pack-answer .ensures ∙ file-packs _ _ (c .before .before .before .before .before .before .before .before .before .before .before .before .before .before .before .before .before .before .before .«open» .ensures) 21 _ _ refl }
 
 pub plan-run-spec : {M : Type 1} → statement M
 plan-run-spec =

@@ -12,52 +12,52 @@ use Rattle.model.specs.Lists.{sum}
 use Rattle.model.specs.declared.Verdict.the-variants.{Accepted}
 use Rattle.model.specs.Sides.{span-of, Layout, cell-count}
 use Rattle.model.proofs.Booleans.{and-out}
-use Rattle.model.specs.Rows.{Row, row, first, each}
+use Rattle.model.specs.Rows.{Row, row, answer-of, all-rows}
 use Rattle.reading.specs.Bytes.{array-count, length-at, first-record, bodies-at, between, lengths-of}
 use Rattle.reading.proofs.Tables.{sums-within}
 use Rattle.frame.specs.Frame.{header-fits, header-rows, tail-rows}
-use Rattle.contents.specs.Contents.{array-rows, body-rows, contents-rows, front-rows}
-use Rattle.records.specs.Records.{records-rows}
+use Rattle.contents.specs.Contents.{array-rows, entry-rows, contents-rows, front-rows}
+use Rattle.records.specs.Records.{body-rows}
 use Rattle.format.specs.Opening.{open-rows, opening}
 use Rattle.files.specs.Files.{Body}
-use Rattle.files.specs.Bounds.{all, arrays-fit}
+use Rattle.files.specs.Bounds.{all-pass, arrays-fit}
 use Rattle.files.proofs.Files.Holding.{Along, none, more, at-place, each-so, both-along}
 use Rattle.files.proofs.Files.Places.{body-size, sizes, Placed, Laid}
 
 -- no row of the list holds
 abbrev pub Passes : List Row → Type 0
-Passes rows = first rows ≡ Accepted
+Passes rows = answer-of rows ≡ Accepted
 
 pub passes-none : Passes []
-unfolding first
+unfolding answer-of
 passes-none = refl
 
 pub passes-row : (holds : Bool) (number place : ℕ) (rows : List Row) → holds ≡ false → Passes rows → Passes (row holds number place ∷ rows)
-unfolding first
+unfolding answer-of
 passes-row holds number place rows e h = rw e h
 
 pub passes-append : (a b : List Row) → Passes a → Passes b → Passes (a ++ b)
-unfolding first
+unfolding answer-of
 passes-append [] b e h = h
 passes-append (row true n p ∷ a) b e h = absurd (let z : _≡_ {A = ℕ} 0 1 = cc in omega arith)
 passes-append (row false n p ∷ a) b e h = passes-append a b e h
 
-passes-each : (n : ℕ) (rows : ℕ → List Row) → ((i : ℕ) → i < n → Passes (rows i)) → Passes (each n rows)
-unfolding each
+passes-each : (n : ℕ) (rows : ℕ → List Row) → ((i : ℕ) → i < n → Passes (rows i)) → Passes (all-rows n rows)
+unfolding all-rows
 passes-each zero rows h = passes-none
-passes-each (suc n) rows h = passes-append (each n rows) (rows n) (passes-each n rows (λ i k. h i (omega arith))) (h n (omega arith))
+passes-each (suc n) rows h = passes-append (all-rows n rows) (rows n) (passes-each n rows (λ i k. h i (omega arith))) (h n (omega arith))
 
-passes-along : {A : Type 0} (l : List A) (rows : ℕ → List Row) → Along (λ i x. Passes (rows i)) 0 l → Passes (each (length l) rows)
-unfolding each
+passes-along : {A : Type 0} (l : List A) (rows : ℕ → List Row) → Along (λ i x. Passes (rows i)) 0 l → Passes (all-rows (length l) rows)
+unfolding all-rows
 passes-along [] rows h = passes-none
 passes-along (x ∷ l) rows h = passes-each (suc (length l)) rows (λ i k. rw zero-add at (at-place h x i k))
 
 pub within-bounds : (low high x : ℕ) → between low high x ≡ true → (low ≤ x) × (x ≤ high)
 within-bounds low high x e = let h = and-out (leb low x) (leb x high) e in (leb-true _ _ (h .0), leb-true _ _ (h .1))
 
-all-along : {A : Type 0} (test : A → Bool) (l : List A) (r : ℕ) → all test l ≡ true → Along (λ i x. test x ≡ true) r l
+all-along : {A : Type 0} (test : A → Bool) (l : List A) (r : ℕ) → all-pass test l ≡ true → Along (λ i x. test x ≡ true) r l
 all-along test [] r e = none
-all-along test (x ∷ l) r e = let h = and-out (test x) (all test l) e in more (h .0) (all-along test l (suc r) (h .1))
+all-along test (x ∷ l) r e = let h = and-out (test x) (all-pass test l) e in more (h .0) (all-along test l (suc r) (h .1))
 
 -- "more declarations than records, declarations in body 0"
 pub record EntryFits (b : ℕ) (x : Body) : Type 0 where
@@ -81,8 +81,8 @@ module _ (f : List ℕ) (kind : ℕ) (layout : Layout) (bodies : List Body) (l :
       let lengths-are : lengths-of f ≡ layout .lengths = ap (λ (y : Layout). y .lengths) (l .arrays-are) in
       passes-row _ _ _ _ (rw (e, lengths-are, fits, so-far)) passes-none
 
-  body-passes : sum (sizes bodies) ≤ 1024 → (b : ℕ) (x : Body) → Placed f b x → EntryFits b x → Passes (body-rows f b)
-  unfolding body-rows
+  body-passes : sum (sizes bodies) ≤ 1024 → (b : ℕ) (x : Body) → Placed f b x → EntryFits b x → Passes (entry-rows f b)
+  unfolding entry-rows
   body-passes few b x p fits =
       let e = p .entry in
       let so-far : ltb 1024 (first-record f (suc b)) ≡ false = le-ltb 1024 (first-record f (suc b)) (omega (arith, l .within (suc b))) in
@@ -92,25 +92,25 @@ module _ (f : List ℕ) (kind : ℕ) (layout : Layout) (bodies : List Body) (l :
   contents-passes : arrays-fit layout ≡ true → sum (sizes bodies) ≤ 1024 → Along EntryFits 0 bodies → Passes (contents-rows f)
   unfolding contents-rows
   contents-passes fit few entries =
-      let h = and-out (between 1 32 (length (layout .lengths))) (all (between 1 4096) (layout .lengths) && leb (cell-count layout) 4096) fit in
-      let k = and-out (all (between 1 4096) (layout .lengths)) (leb (cell-count layout) 4096) (h .1) in
+      let h = and-out (between 1 32 (length (layout .lengths))) (all-pass (between 1 4096) (layout .lengths) && leb (cell-count layout) 4096) fit in
+      let k = and-out (all-pass (between 1 4096) (layout .lengths)) (leb (cell-count layout) 4096) (h .1) in
       let lengths = both-along (l .arrayed .held) (all-along (between 1 4096) (layout .lengths) 0 (k .0)) in
       let bodies-fit = both-along (l .placed) entries in
       passes-row _ _ _ _ (le-ltb (length f) (bodies-at f) (omega (arith, l .long)))
-      (passes-append (each (array-count f) (array-rows f)) _
+      (passes-append (all-rows (array-count f) (array-rows f)) _
       (rw (l .arrayed .counted) (passes-along (layout .lengths) (array-rows f) (each-so (λ a n p. array-passes (k .1) a n (p .0) (p .1)) lengths)))
-      (rw (l .body-count-is) (passes-along bodies (body-rows f) (each-so (λ b x p. body-passes few b x (p .0) (p .1)) bodies-fit))))
+      (rw (l .body-count-is) (passes-along bodies (entry-rows f) (each-so (λ b x p. body-passes few b x (p .0) (p .1)) bodies-fit))))
 
   tail-passes : Passes (tail-rows f)
   unfolding tail-rows
   tail-passes = passes-row _ _ _ _ (rw (eq-eqb _ _ (l .long))) (passes-row _ _ _ _ (rw (l .checked)) passes-none)
 
   pub opens : between 1 2 kind ≡ true → arrays-fit layout ≡ true → between 1 32 (length bodies) ≡ true → (eqb kind 1 || eqb (length bodies) 1) ≡ true
-      → sum (sizes bodies) ≤ 1024 → Along EntryFits 0 bodies → Along (λ b x. Passes (records-rows f b)) 0 bodies → opening f ≡ Accepted
+      → sum (sizes bodies) ≤ 1024 → Along EntryFits 0 bodies → Along (λ b x. Passes (body-rows f b)) 0 bodies → opening f ≡ Accepted
   unfolding opening open-rows front-rows
   opens kinds fit some-bodies one few entries records =
-      let h = and-out (between 1 32 (length (layout .lengths))) (all (between 1 4096) (layout .lengths) && leb (cell-count layout) 4096) fit in
+      let h = and-out (between 1 32 (length (layout .lengths))) (all-pass (between 1 4096) (layout .lengths) && leb (cell-count layout) 4096) fit in
       passes-append (front-rows f) _
       (passes-append (header-rows f) _ (header-passes kinds (h .0) some-bodies one)
       (passes-append (contents-rows f) _ (contents-passes fit few entries) tail-passes))
-      (rw (l .body-count-is) (passes-along bodies (records-rows f) records))
+      (rw (l .body-count-is) (passes-along bodies (body-rows f) records))

@@ -11,8 +11,8 @@ use Rattle.model.proofs.Booleans.{and-in}
 use Rattle.reading.specs.declared.Fields.{Fields}
 use Rattle.reading.specs.Bytes.{body-count, fields-at, between, first-arm, second-arm}
 use Rattle.rules.specs.Rules.{fields-fit, allowed, deepest}
-use Rattle.files.specs.Files.{call-fields, fields-of}
-use Rattle.files.specs.Bounds.{nested-within}
+use Rattle.files.specs.Files.{fields-of}
+use Rattle.files.specs.Bounds.{nested-within, call-fields}
 use Rattle.files.proofs.Files.Holding.{Holds}
 use Rattle.files.proofs.Files.Accepting.{within-bounds}
 use Rattle.files.proofs.Files.Records.{Walks, PlainAt, walks-of}

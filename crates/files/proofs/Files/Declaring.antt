@@ -16,10 +16,11 @@ use Rattle.model.proofs.Booleans.{and-out}
 use Rattle.reading.specs.declared.Fields.{Fields}
 use Rattle.reading.specs.Bytes.{kind-of, array-count, table, records-in, declarations-in, first-record, fields-at, between, first-arm, second-arm}
 use Rattle.rules.specs.Rules.{fields-fit, allowed, deepest}
-use Rattle.records.specs.Records.{records-rows}
+use Rattle.records.specs.Records.{body-rows}
 use Rattle.format.specs.Plans.{declaration-of, pass-at}
-use Rattle.files.specs.Files.{fields, mode-kind, declaration-fields, block-fields, pass-body}
-use Rattle.files.specs.Bounds.{all, block-fits, pass-fits, pass-size, passes-size, numbered-passes}
+use Rattle.files.specs.Files.{fields}
+use Rattle.files.specs.Inner.Short.{block-fields, block-fits, passes-size}
+use Rattle.files.specs.Bounds.{all-pass, pass-fits, pass-size, numbered-passes, mode-kind, declaration-fields, pass-body}
 use Rattle.files.proofs.Files.Holding.{Along, none, more, Holds, front-part, back-at, each-so, along-unmap, from-place, table-is}
 use Rattle.files.proofs.Files.Places.{body-size, sizes, Arrayed, Placed}
 use Rattle.files.proofs.Files.Accepting.{Passes, EntryFits}
@@ -54,12 +55,12 @@ unfolding declaration-of
 declaration-back d = rw (mode-back (d .mode), side-back (d .side))
 
 -- the declarations in front of a pass's other records
-declarations-walk : (f : List ℕ) (b end : ℕ) (ds : List Declaration) (r : ℕ) → all (λ (d : Declaration). ltb (d .array) (array-count f)) ds ≡ true
+declarations-walk : (f : List ℕ) (b end : ℕ) (ds : List Declaration) (r : ℕ) → all-pass (λ (d : Declaration). ltb (d .array) (array-count f)) ds ≡ true
     → ((s : ℕ) (x : Fields) → s < r + length ds → between 16 18 (x .kind) ≡ true → allowed f b s x ≡ true) → r + length ds ≤ end
     → Holds (fields-at f) r (map declaration-fields ds) → Walks f b 0 (r + length ds) end → Walks f b 0 r end
 declarations-walk f b end [] r e may inside h rest = rw add-zero at rest
 declarations-walk f b end (d ∷ ds) r e may inside (more x-is h) rest =
-    let fit = and-out (ltb (d .array) (array-count f)) (all (λ (c : Declaration). ltb (c .array) (array-count f)) ds) e in
+    let fit = and-out (ltb (d .array) (array-count f)) (all-pass (λ (c : Declaration). ltb (c .array) (array-count f)) ds) e in
     let next : suc r + length ds ≡ r + suc (length ds) = omega arith in
     let arms = declaration-arms (d .mode) (side-number (d .side)) (d .array) in
     at-plain f b 0 r end (declaration-fields d) x-is (declaration-fit f (d .mode) (d .side) (d .array) (fit .0))
@@ -88,11 +89,11 @@ module _ (f : List ℕ) (b : ℕ) (p : Pass) (placed : Placed f b (pass-body p))
   records-are = placed .entry .records-are ∙ pass-count p
 
   pass-walks : (layout : Layout) → kind-of f ≡ 1 → eqb b 0 ≡ false → Arrayed f layout
-      → pass-fits layout p ≡ true → Passes (records-rows f b)
-  unfolding records-rows allowed deepest
+      → pass-fits layout p ≡ true → Passes (body-rows f b)
+  unfolding body-rows allowed deepest
   pass-walks layout kind-is later arrayed fits =
-      let fit = and-out (leb declared 255) (all (λ (d : Declaration). ltb (d .array) (length (layout .lengths))) (p .declarations) && block-fits layout 8 (p .body)) fits .1 in
-      let fit′ = and-out (all (λ (d : Declaration). ltb (d .array) (length (layout .lengths))) (p .declarations)) (block-fits layout 8 (p .body)) fit in
+      let fit = and-out (leb declared 255) (all-pass (λ (d : Declaration). ltb (d .array) (length (layout .lengths))) (p .declarations) && block-fits layout 8 (p .body)) fits .1 in
+      let fit′ = and-out (all-pass (λ (d : Declaration). ltb (d .array) (length (layout .lengths))) (p .declarations)) (block-fits layout 8 (p .body)) fit in
       let declarations-are : declarations-in f b ≡ declared = placed .entry .declarations-are in
       let end : first-record f (suc b) ≡ r + declared + size (p .body) = omega (arith, placed .next, pass-count p) in
       let deep : deepest f ≡ 7 = rw kind-is in
@@ -128,10 +129,10 @@ passes-entries (p ∷ ps) b later =
 
 module _ (f : List ℕ) where
   pub passes-walk : (layout : Layout) → kind-of f ≡ 1 → Arrayed f layout
-      → (ps : List Pass) (b : ℕ) → eqb b 0 ≡ false → all (pass-fits layout) ps ≡ true → Along (Placed f) b (map pass-body ps) → Along (λ c x. Passes (records-rows f c)) b (map pass-body ps)
+      → (ps : List Pass) (b : ℕ) → eqb b 0 ≡ false → all-pass (pass-fits layout) ps ≡ true → Along (Placed f) b (map pass-body ps) → Along (λ c x. Passes (body-rows f c)) b (map pass-body ps)
   passes-walk layout kind-is arrayed [] b later fits h = none
   passes-walk layout kind-is arrayed (p ∷ ps) b later fits (more q h) =
-      let fit = and-out (pass-fits layout p) (all (pass-fits layout) ps) fits in
+      let fit = and-out (pass-fits layout p) (all-pass (pass-fits layout) ps) fits in
       more (pass-walks f b p q layout kind-is later arrayed (fit .0))
       (passes-walk layout kind-is arrayed ps (suc b) (ne-eqb (suc b) 0 (λ e. omega arith)) (fit .1) h)
 

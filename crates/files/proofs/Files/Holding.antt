@@ -6,7 +6,7 @@ use native.Mathlib.Omega.{arith}
 use native.Mathlib.Nat.{add-zero, add-suc, suc-add, add-comm, add-assoc, mul-zero, mul-suc}
 use lib.ListN.{length, getD, length-append}
 use Rattle.reading.specs.Bytes.{byte-at, table}
-use Rattle.files.specs.Files.{joined}
+use Rattle.model.specs.Lists.{chain}
 
 -- P holds of the places r, r + 1, .. and of the entries of the list
 pub data Along {A : Type 0} (P : ℕ → A → Type 0) : ℕ → List A → Type 0 where
@@ -84,14 +84,14 @@ itself (x ∷ f) = more refl (up (itself f))
 
 -- the entries' pieces of equal width, one after the other
 module _ {A : Type 0} (bytes : A → List ℕ) (width : ℕ) (wide : (x : A) → length (bytes x) ≡ width) where
-  pub joined-length : (l : List A) → length (joined bytes l) ≡ width * length l
+  pub joined-length : (l : List A) → length (chain bytes l) ≡ width * length l
   joined-length [] = rw mul-zero
-  joined-length (x ∷ l) = length-append (bytes x) (joined bytes l) ∙ rw (wide x, joined-length l, mul-suc) (add-comm _ _)
+  joined-length (x ∷ l) = length-append (bytes x) (chain bytes l) ∙ rw (wide x, joined-length l, mul-suc) (add-comm _ _)
 
-  pub pieces : (f : ℕ → ℕ) (start : ℕ) (l : List A) (r : ℕ) → Holds f (start + width * r) (joined bytes l) → Along (λ i x. Holds f (start + width * i) (bytes x)) r l
+  pub pieces : (f : ℕ → ℕ) (start : ℕ) (l : List A) (r : ℕ) → Holds f (start + width * r) (chain bytes l) → Along (λ i x. Holds f (start + width * i) (bytes x)) r l
   pieces f start [] r h = none
   pieces f start (x ∷ l) r h =
-      more (front-part (bytes x) (joined bytes l) h)
+      more (front-part (bytes x) (chain bytes l) h)
       (pieces f start l (suc r) (rw (mul-suc, ← add-assoc) (rw (wide x) at (back-part (bytes x) h))))
 
 -- a table's entries, from the first on

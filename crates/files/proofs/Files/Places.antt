@@ -9,15 +9,15 @@ use native.Mathlib.Nat.{add-zero, zero-add, add-assoc}
 use lib.ListN.{length, getD, length-append, length-map, List·getD-map}
 use lib.Seq.{take-at, getD-append-seam, getD-append-add}
 use borrow.Author.Tests.{eq-eqb}
-use Rattle.model.specs.Lists.{sum-before, sum}
+use Rattle.model.specs.Lists.{sum-before, sum, chain}
 use Rattle.model.specs.Sides.{span-of, Layout}
 use Rattle.model.proofs.Booleans.{and-in}
 use Rattle.reading.specs.declared.Fields.{Fields}
-use Rattle.reading.specs.Bytes.{byte-at, u16-at, kind-of, array-count, body-count, length-at, layout-of, entry-at, records-in, declarations-in, last-of-entry, sizes-of, first-record, record-count, bodies-at, fields-at, lengths-of}
+use Rattle.reading.specs.Bytes.{byte-at, u16-at, kind-of, array-count, body-count, length-at, layout-of, entry-at, records-in, declarations-in, sizes-of, first-record, record-count, bodies-at, fields-at, lengths-of}
 use Rattle.reading.proofs.Tables.{first-zero, first-more, cells-first, sums-within}
 use Rattle.sums.specs.Sums.{plain-sum, weighted-sum, check-bytes}
 use Rattle.frame.specs.Frame.{checks-fit}
-use Rattle.files.specs.Files.{u16-bytes, record-bytes, Body, entry-bytes, joined, front, file}
+use Rattle.files.specs.Files.{u16-bytes, record-bytes, Body, entry-bytes, front, file}
 use Rattle.files.proofs.Files.Holding.{Along, none, more, Holds, front-part, back-part, at-place, along-of, each-so, along-map, itself, joined-length, pieces, table-is}
 
 -- numbers of two bytes
@@ -29,15 +29,15 @@ unfolding u16-at
 u16-is f i n (more low (more high none)) = rw (add-one, low, high) (u16-back n)
 
 -- how long the parts are
-lengths-length : (l : List ℕ) → length (joined u16-bytes l) ≡ 2 * length l
+lengths-length : (l : List ℕ) → length (chain u16-bytes l) ≡ 2 * length l
 lengths-length = joined-length u16-bytes 2 (λ n. refl)
 
-entries-length : (bodies : List Body) → length (joined entry-bytes bodies) ≡ 4 * length bodies
+entries-length : (bodies : List Body) → length (chain entry-bytes bodies) ≡ 4 * length bodies
 entries-length = joined-length entry-bytes 4 (λ b. refl)
 
 front-length : (kind : ℕ) (layout : Layout) (bodies : List Body) → length (front kind layout bodies) ≡ 4 + 2 * length (layout .lengths) + 4 * length bodies
 front-length kind layout bodies =
-    omega (arith, length-append (joined u16-bytes (layout .lengths)) (joined entry-bytes bodies), lengths-length (layout .lengths), entries-length bodies)
+    omega (arith, length-append (chain u16-bytes (layout .lengths)) (chain entry-bytes bodies), lengths-length (layout .lengths), entries-length bodies)
 
 abbrev pub body-size : Body → ℕ
 body-size b = length (b .records)
@@ -46,14 +46,14 @@ abbrev pub sizes : List Body → List ℕ
 sizes bodies = map body-size bodies
 
 abbrev body-bytes : Body → List ℕ
-body-bytes b = joined record-bytes (b .records)
+body-bytes b = chain record-bytes (b .records)
 
 body-length : (b : Body) → length (body-bytes b) ≡ 8 * body-size b
 body-length b = joined-length record-bytes 8 (λ x. refl) (b .records)
 
-bodies-length : (bodies : List Body) → length (joined body-bytes bodies) ≡ 8 * sum (sizes bodies)
+bodies-length : (bodies : List Body) → length (chain body-bytes bodies) ≡ 8 * sum (sizes bodies)
 bodies-length [] = refl
-bodies-length (b ∷ bodies) = omega (arith, length-append (body-bytes b) (joined body-bytes bodies), body-length b, bodies-length bodies)
+bodies-length (b ∷ bodies) = omega (arith, length-append (body-bytes b) (chain body-bytes bodies), body-length b, bodies-length bodies)
 
 -- the parts of a file, in order
 record Parts (f : List ℕ) (kind : ℕ) (layout : Layout) (bodies : List Body) : Type 0 where
@@ -61,15 +61,15 @@ record Parts (f : List ℕ) (kind : ℕ) (layout : Layout) (bodies : List Body) 
   array-count-is : array-count f ≡ length (layout .lengths)
   body-count-is : body-count f ≡ length bodies
   zero-is : byte-at f 3 ≡ 0
-  lengths : Holds (byte-at f) 4 (joined u16-bytes (layout .lengths))
-  entries : Holds (byte-at f) (4 + 2 * length (layout .lengths)) (joined entry-bytes bodies)
-  records : Holds (byte-at f) (4 + 2 * length (layout .lengths) + 4 * length bodies) (joined body-bytes bodies)
+  lengths : Holds (byte-at f) 4 (chain u16-bytes (layout .lengths))
+  entries : Holds (byte-at f) (4 + 2 * length (layout .lengths)) (chain entry-bytes bodies)
+  records : Holds (byte-at f) (4 + 2 * length (layout .lengths) + 4 * length bodies) (chain body-bytes bodies)
 
-parts : (f : List ℕ) (kind : ℕ) (layout : Layout) (bodies : List Body) → Holds (byte-at f) 0 (front kind layout bodies ++ joined body-bytes bodies) → Parts f kind layout bodies
+parts : (f : List ℕ) (kind : ℕ) (layout : Layout) (bodies : List Body) → Holds (byte-at f) 0 (front kind layout bodies ++ chain body-bytes bodies) → Parts f kind layout bodies
 parts f kind layout bodies (more e0 (more e1 (more e2 (more e3 h)))) =
-    let lengths = joined u16-bytes (layout .lengths) in
-    let entries = joined entry-bytes bodies in
-    let contents = front-part (lengths ++ entries) (joined body-bytes bodies) h in
+    let lengths = chain u16-bytes (layout .lengths) in
+    let entries = chain entry-bytes bodies in
+    let contents = front-part (lengths ++ entries) (chain body-bytes bodies) h in
     let start : 4 + length (lengths ++ entries) ≡ 4 + 2 * length (layout .lengths) + 4 * length bodies = omega (arith, front-length kind layout bodies) in
     record {
       kind-is = e0;
@@ -86,7 +86,7 @@ module _ (f : List ℕ) where
   pub record Entry (b : ℕ) (x : Body) : Type 0 where
     pub records-are : records-in f b ≡ body-size x
     pub declarations-are : declarations-in f b ≡ x .declarations
-    pub last-is : last-of-entry f b ≡ 0
+    pub last-is : byte-at f (entry-at f b + 3) ≡ 0
 
   entry-is : (b : ℕ) (x : Body) → Holds (byte-at f) (entry-at f b) (entry-bytes x) → Entry b x
   entry-is b x (more e0 (more e1 (more e2 (more e3 none)))) =
@@ -138,13 +138,13 @@ module _ (f : List ℕ) (kind : ℕ) (layout : Layout) (bodies : List Body) (p :
       rw (p .body-count-is, ← length-map bodies body-size)
       (table-is (records-in f) (sizes bodies) (along-map body-size (each-so (λ b x e. e .records-are) entries-held)))
 
-  records-held : (l : List Fields) (r : ℕ) → Holds (byte-at f) (bodies-at f + 8 * r) (joined record-bytes l) → Holds (fields-at f) r l
+  records-held : (l : List Fields) (r : ℕ) → Holds (byte-at f) (bodies-at f + 8 * r) (chain record-bytes l) → Holds (fields-at f) r l
   records-held l r h = each-so (fields-are f) (pieces record-bytes 8 (λ x. refl) (byte-at f) (bodies-at f) l r h)
 
-  bodies-held : (l : List Body) (r b : ℕ) → Holds (byte-at f) (bodies-at f + 8 * r) (joined body-bytes l) → b < length l → Holds (fields-at f) (r + sum-before (sizes l) b) (getD l b no-body .records)
+  bodies-held : (l : List Body) (r b : ℕ) → Holds (byte-at f) (bodies-at f + 8 * r) (chain body-bytes l) → b < length l → Holds (fields-at f) (r + sum-before (sizes l) b) (getD l b no-body .records)
   unfolding sum-before
   bodies-held [] r b h k = absurd (omega arith)
-  bodies-held (x ∷ l) r zero h k = rw add-zero (records-held (x .records) r (front-part (body-bytes x) (joined body-bytes l) h))
+  bodies-held (x ∷ l) r zero h k = rw add-zero (records-held (x .records) r (front-part (body-bytes x) (chain body-bytes l) h))
   bodies-held (x ∷ l) r (suc b) h k =
       let next : bodies-at f + 8 * r + length (body-bytes x) ≡ bodies-at f + 8 * (r + body-size x) = omega (arith, body-length x) in
       rw (← add-assoc) (bodies-held l (r + body-size x) b (rw next at (back-part (body-bytes x) h)) (omega arith))
@@ -192,10 +192,10 @@ module _ (kind : ℕ) (layout : Layout) (bodies : List Body) where
 
   -- all but the check bytes
   abbrev summed : List ℕ
-  summed = front kind layout bodies ++ joined body-bytes bodies
+  summed = front kind layout bodies ++ chain body-bytes bodies
 
   summed-length : length summed ≡ 4 + 2 * length (layout .lengths) + 4 * length bodies + 8 * sum (sizes bodies)
-  summed-length = omega (arith, length-append (front kind layout bodies) (joined body-bytes bodies), front-length kind layout bodies, bodies-length bodies)
+  summed-length = omega (arith, length-append (front kind layout bodies) (chain body-bytes bodies), front-length kind layout bodies, bodies-length bodies)
 
   whole : Holds (byte-at f) 0 (summed ++ check-bytes summed)
   unfolding file
@@ -215,7 +215,7 @@ module _ (kind : ℕ) (layout : Layout) (bodies : List Body) where
       at-body : (b : ℕ) → b < length bodies → Placed f b (getD bodies b no-body)
       at-body b h =
           let sizes-is : sizes-of f ≡ sizes bodies = sizes-are f kind layout bodies p in
-          let start : Holds (byte-at f) (bodies-at f + 8 * 0) (joined body-bytes bodies) = rw (add-zero, bodies-start f kind layout bodies p) (p .records) in
+          let start : Holds (byte-at f) (bodies-at f + 8 * 0) (chain body-bytes bodies) = rw (add-zero, bodies-start f kind layout bodies p) (p .records) in
           record {
             entry = rw zero-add at (at-place (entries-held f kind layout bodies p) no-body b h);
             next = rw (sizes-is, ← List·getD-map body-size bodies b no-body) (first-more (sizes bodies) b);

@@ -12,8 +12,11 @@ use Rattle.model.specs.Records.{Verb, read, write, copy, need, mark, kind, Acti
 use Rattle.model.specs.Blocks.{Block, size, numbered}
 use Rattle.reading.specs.declared.Fields.{Fields}
 use Rattle.reading.specs.Bytes.{first-arm, second-arm}
-use Rattle.format.specs.Plans.{side-of, verb-of, action-of, call-of, block-of}
-use Rattle.files.specs.Files.{fields, action-fields, call-fields, fields-of, block-fields}
+use Rattle.format.specs.Plans.{side-of, verb-of, action-of, block-of}
+use Rattle.format.specs.Inner.Walks.{call-of}
+use Rattle.files.specs.Files.{fields, action-fields, fields-of}
+use Rattle.files.specs.Bounds.{call-fields}
+use Rattle.files.specs.Inner.Short.{block-fields}
 use Rattle.files.proofs.Files.Holding.{more, Holds, front-part, back-at}
 use Rattle.files.proofs.Files.Records.{no-arms, count-of}
 

@@ -18,8 +18,9 @@ use Rattle.reading.specs.declared.Fields.{Fields}
 use Rattle.reading.specs.Bytes.{array-count, length-at, fields-at, between, first-arm, second-arm}
 use Rattle.rules.specs.Rules.{fields-fit, allowed, deepest, record-rows}
 use Rattle.records.specs.Records.{block-rows}
-use Rattle.files.specs.Files.{fields, action-fields, fields-of, block-fields}
-use Rattle.files.specs.Bounds.{cells-fit, action-fits, nested-within, block-fits}
+use Rattle.files.specs.Files.{fields, action-fields, fields-of}
+use Rattle.files.specs.Inner.Short.{block-fields, block-fits}
+use Rattle.files.specs.Bounds.{cells-fit, action-fits, nested-within}
 use Rattle.files.proofs.Files.Holding.{more, Holds, front-part, back-at}
 use Rattle.files.proofs.Files.Places.{Arrayed, array-length}
 use Rattle.files.proofs.Files.Accepting.{Passes, passes-none, passes-row, passes-append, within-bounds}
@@ -36,7 +37,7 @@ module _ (f : List ℕ) (b : ℕ) where
 
   -- one record, its arms, the rest
   module _ (depth r end : ℕ) (x : Fields) (x-is : fields-at f r ≡ x) (fits : fields-fit f x ≡ true) (may : allowed f b r x ≡ true) where
-    record-passes : r + 1 + first-arm x + second-arm x ≤ end → (between 6 7 (x .kind) && ltb (deepest f) depth) ≡ false → Passes (record-rows f b depth end r)
+    record-passes : r + 1 + first-arm x + second-arm x ≤ end → (between 6 7 (x .kind) && ltb (deepest f) depth) ≡ false → Passes (record-rows f b depth r end)
     unfolding record-rows
     record-passes inside shallow =
         simp (x-is, fits, may, le-ltb end (r + 1 + first-arm x + second-arm x) inside, shallow) (passes-row _ _ _ _ refl (passes-row _ _ _ _ refl (passes-row _ _ _ _ refl passes-none)))
@@ -49,7 +50,7 @@ module _ (f : List ℕ) (b : ℕ) where
         let h : r < end = omega arith in
         let inside′ : r + 1 + first-arm x + second-arm x ≤ end = rw (add-one, en, em) inside in
         rw (lt-ltb r end h)
-        (passes-append (record-rows f b depth end r) _ (record-passes inside′ shallow)
+        (passes-append (record-rows f b depth r end) _ (record-passes inside′ shallow)
         (rw (x-is, add-one r, en, em) (passes-append (block-rows fuel f b (depth + 1) (suc r) (suc r + n)) _ (one fuel)
         (passes-append (block-rows fuel f b (depth + 1) (suc r + n) (suc r + n + m)) _ (two fuel) (rest fuel)))))
 

@@ -3,7 +3,7 @@ use Prim.Native.Nat.{_<_}
 use mathlib.Core.Path.{_≡_, refl, sym, ap, _∙_}
 use native.Mathlib.Omega.{arith}
 use Rattle.reading.specs.Bytes.{record-count}
-use Rattle.contents.specs.Found.{found}
+use Rattle.contents.specs.Inner.Findings.{found}
 use Rattle.format.specs.Inner.Walks.{Plain}
 use Rattle.model.proofs.Rows.{turned}
 use Rattle.format.proofs.Walking.{verdict-is, found-is, opened-facts}

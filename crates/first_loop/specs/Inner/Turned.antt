@@ -5,7 +5,7 @@ use mathlib.Core.Logic.{_⊎_}
 use mathlib.Core.Bool.{true, false}
 use mathlib.Core.List.{List}
 use Rattle.model.specs.declared.Verdict.the-variants.{Accepted}
-use Rattle.model.proofs.Through.{Goes, Stops}
+use Rattle.model.specs.Inner.Stops.{Goes, Stops}
 use Rattle.reading.specs.Bytes.{kind-of, layout-of, record-count, fields-at}
 use Rattle.format.specs.Opening.{opening}
 use Rattle.statuses.specs.declared.acts.Found.{Found}

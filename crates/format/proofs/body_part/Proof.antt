@@ -3,7 +3,7 @@ use mathlib.Core.Path.{_≡_, refl, sym, ap, _∙_}
 use Rattle.model.specs.declared.Verdict.the-variants.{Accepted}
 use Rattle.reading.specs.Bytes.{body-count}
 use Rattle.format.specs.Opening.{opening}
-use Rattle.contents.specs.Found.{found}
+use Rattle.contents.specs.Inner.Findings.{found}
 use Rattle.model.proofs.Rows.{refused, turned}
 use Rattle.format.proofs.Views.{view-unopened, view-none, part-none, Range, body-range, part-there}
 use Rattle.format.proofs.Walking.{verdict-is, found-is}

@@ -1,20 +1,20 @@
 -- `format::open` opens a plan file: its whole result is the definition's.
 use mathlib.Core.Path.{_≡_, refl, sym, ap, _∙_}
 use Rattle.model.specs.declared.Verdict.the-variants.{Accepted}
-use Rattle.model.specs.Rows.{first}
+use Rattle.model.specs.Rows.{answer-of}
 use Rattle.contents.specs.Found.{found-by}
 use Rattle.format.specs.Opening.{opened}
 use Rattle.contents.specs.Contents.{front-rows}
 use Rattle.model.proofs.Rows.{turned}
 use Rattle.format.proofs.Opening.{open-front, open-records}
-use Rattle.contents.proofs.Places.{nothing, answer}
+use Rattle.contents.proofs.Places.{nothing}
 use borrow.Author.Needs.{needs}
 use Rattle.format.proofs.open.Statement.{statement}
 use Rattle.format.proofs.open.Tie as tie
 
 -- header, contents and tail are passed
-front : (c : tie.After-enum-told) → Accepted ≡ first (front-rows (c .before .before .before .before .args .plan .now))
-front c = sym (c .enum-told .given .1) ∙ ap (λ o. o .verdict) (c .before .before .outline .ensures) ∙ answer _ _
+front : (c : tie.After-enum-told) → Accepted ≡ answer-of (front-rows (c .before .before .before .before .args .plan .now))
+front c = sym (c .enum-told .given .1) ∙ ap (λ o. o .verdict) (c .before .before .outline .ensures)
 
 outline-requires : tie.Need-outline-requires
 outline-requires c κs = search needs
@@ -24,7 +24,7 @@ enum-told c = search needs
 
 returns : tie.Need-returns
 unfolding opened
-returns c = c .before .outline .ensures ∙ ap (found-by (c .before .before .before .args .plan .now)) (open-front _ _ (λ e. turned _ (c .match .keys2) (ap (λ o. o .verdict) (c .before .outline .ensures) ∙ answer _ _ ∙ e)) refl)
+returns c = c .before .outline .ensures ∙ ap (found-by (c .before .before .before .args .plan .now)) (open-front _ _ (λ e. turned _ (c .match .keys2) (ap (λ o. o .verdict) (c .before .outline .ensures) ∙ e)) refl)
 
 all-records-requires : tie.Need-all-records-requires
 all-records-requires c κs = (front c, c .before .before .outline .ensures ∙ ap (found-by _) (sym (front c)))

@@ -7,11 +7,12 @@ use Rattle.model.specs.declared.Verdict.the-variants.{Accepted}
 use Rattle.model.specs.Sides.{span-of}
 use Rattle.model.specs.Records.{Action}
 use Rattle.model.specs.Blocks.{Block}
-use Rattle.model.specs.Rows.{first}
+use Rattle.model.specs.Rows.{answer-of}
+use Rattle.reading.specs.declared.Fields.{Fields}
 use Rattle.reading.specs.Bytes.{kind-of, array-count, layout-of, bodies-at, fields-at}
 use Rattle.records.specs.Records.{block-rows}
 use Rattle.format.specs.Opening.{opening}
-use Rattle.format.specs.Plans.{action-of, call-of, block-of}
+use Rattle.format.specs.Plans.{action-of, block-of}
 
 -- the file opens and its plan is plain; `bodies` is where its bodies begin
 pub record Plain (f : List ℕ) (bodies : ℕ) : Type 0 where
@@ -27,7 +28,7 @@ pub record Starts (f : List ℕ) (starts : List ℕ) : Type 0 where
 pub record Good (f : List ℕ) (b depth r end : ℕ) : Type 0 where
   pub fuel : ℕ
   pub enough : end ≤ r + fuel
-  pub passes : Accepted ≡ first (block-rows fuel f b depth r end)
+  pub passes : Accepted ≡ answer-of (block-rows fuel f b depth r end)
 
 -- the same, whatever their body and their depth
 pub record Walkable (f : List ℕ) (r end : ℕ) : Type 0 where
@@ -38,6 +39,10 @@ pub record Walkable (f : List ℕ) (r end : ℕ) : Type 0 where
 -- the block of the records r up to `end`, of actions and of calls
 unfoldable pub block-between : List ℕ → ℕ → ℕ → Block Action
 block-between f r end = block-of action-of end (fields-at f) r end
+
+-- the body that a call calls
+abbrev pub call-of : Fields → ℕ
+call-of x = x .p
 
 unfoldable pub body0-between : List ℕ → ℕ → ℕ → Block ℕ
 body0-between f r end = block-of call-of end (fields-at f) r end

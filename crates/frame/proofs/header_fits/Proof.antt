@@ -1,5 +1,4 @@
 -- `frame::header_fits` answers whether the header's bytes keep their rules.
-use mathlib.Core.Path.{refl}
 use Rattle.frame.specs.Frame.{header-fits}
 use Rattle.frame.proofs.header_fits.Statement.{statement}
 use Rattle.frame.proofs.header_fits.Tie as tie

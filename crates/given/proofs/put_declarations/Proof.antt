@@ -4,7 +4,7 @@ use Prim.Native.Nat.{_+_, _*_, _-_, _≤_}
 use native.Mathlib.Omega.{arith}
 use lib.ListN.{length}
 use Rattle.model.specs.Blocks.{size}
-use Rattle.files.specs.Files.{block-fields}
+use Rattle.files.specs.Inner.Short.{block-fields}
 use Rattle.files.specs.Inner.Given.{given-by, declared-from}
 use Rattle.given.specs.Inner.Over.{over, bytes-of}
 use Rattle.files.proofs.Blocks.{same-size}

@@ -4,7 +4,8 @@ use mathlib.Core.List.{List, _++_}
 use lib.ListN.{length, drop}
 use Rattle.reading.specs.declared.Fields.{Fields}
 use Rattle.reading.specs.Bytes.{fields-at}
-use Rattle.files.specs.Files.{record-bytes, joined}
+use Rattle.files.specs.Files.{record-bytes}
+use Rattle.model.specs.Lists.{chain}
 
 -- n declarations, from record r on
 pub record DeclarationsAt (f : List ℕ) (r n : ℕ) : Type 0 where
@@ -17,4 +18,4 @@ over new old = new ++ drop (length new) old
 
 -- the bytes of records, one after the other
 unfoldable pub bytes-of : List Fields → List ℕ
-bytes-of l = joined record-bytes l
+bytes-of l = chain record-bytes l

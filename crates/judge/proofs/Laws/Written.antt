@@ -10,7 +10,7 @@ use lib.ListN.{getD, replicate}
 use Rattle.model.specs.Sides.{Side, Layout, span-of}
 use Rattle.model.specs.Records.{Action}
 use Rattle.model.specs.Blocks.{Block}
-use Rattle.model.specs.Judging.{always-writes}
+use Rattle.model.specs.Judging.{always-writes, all-written}
 use Rattle.model.proofs.Numbering.{array-from, array-ends}
 use Rattle.reading.specs.declared.Fields.{Fields}
 use Rattle.model.specs.Rows.{row}
@@ -18,7 +18,7 @@ use Rattle.reading.specs.Bytes.{array-count, layout-of, fields-at, lengths-of}
 use Rattle.format.specs.Plans.{side-of, declaration-of, pass-at}
 use Rattle.reading.proofs.Tables.{first-more}
 use Rattle.passes.specs.declared.Extent.{Extent}
-use Rattle.judge.specs.Judged.{all-written, w-rows}
+use Rattle.judge.specs.Judged.{w-rows}
 use Rattle.judge.specs.Inner.Unmet.{Decides}
 use Rattle.passes.specs.Inner.Passes.{PassAt}
 use Rattle.permits.specs.Inner.Uses.{Sides}

@@ -9,7 +9,7 @@ use native.Mathlib.Decide.{decLt}
 use native.Mathlib.Omega.{arith}
 use borrow.Author.Tests.{ne-eqb}
 use Rattle.model.specs.Records.{Action}
-use Rattle.model.specs.Judging.{every}
+use Rattle.model.specs.Judging.{every-record}
 use Rattle.model.proofs.Booleans.{and-out, and-in}
 use Rattle.reading.specs.declared.Fields.{Fields}
 use Rattle.reading.specs.Bytes.{fields-at, first-arm, second-arm}
@@ -40,7 +40,7 @@ module _ (test : Action → Bool) (f : List ℕ) where
     ]
   ]
 
-  every-all : (n r end : ℕ) → end ≤ r + n → Walkable f r end → (every test (block-between f r end) ≡ true) ↔ AllPass r end
+  every-all : (n r end : ℕ) → end ≤ r + n → Walkable f r end → (every-record test (block-between f r end) ≡ true) ↔ AllPass r end
   every-all zero r end l w = (λ e k h m. absurd (omega arith), λ a. rw (block-none f r end (omega arith)))
   every-all (suc n) r end l w = elim (decLt r end) [
     | no h ↦ (λ e k u m. absurd (omega arith), λ a. rw (block-none f r end (omega arith)))
@@ -56,8 +56,8 @@ module _ (test : Action → Bool) (f : List ℕ) where
               let one = every-all n (r + 1) second (omega arith) (s .one) in
               let two = every-all n second next (omega arith) (s .two) in (
                 λ e.
-                    let u = and-out (every test (block-between f (r + 1) second)) _ (rw (block-branch f r end h w x refl six) at e) in
-                    let v = and-out (every test (block-between f second next)) _ (u .1) in
+                    let u = and-out (every-record test (block-between f (r + 1) second)) _ (rw (block-branch f r end h w x refl six) at e) in
+                    let v = and-out (every-record test (block-between f second next)) _ (u .1) in
                     joined r second next end (omega arith) inside (λ p q. absurd (p six)) (one .0 (u .0)) (two .0 (v .0)) (rest .0 (v .1)),
                 λ a. rw (block-branch f r end h w x refl six) (and-in _ _ (one .1 (λ k u m. a k (omega arith) (omega arith))) (and-in _ _ (two .1 (λ k u m. a k (omega arith) (omega arith))) (rest .1 (λ k u m. a k (omega arith) m)))),
               )
@@ -67,7 +67,7 @@ module _ (test : Action → Bool) (f : List ℕ) where
                 | yes seven ↦
                     let one = every-all n (r + 1) second (omega arith) (s .one) in (
                       λ e.
-                          let u = and-out (every test (block-between f (r + 1) second)) _ (rw (block-loop f r end h w x refl seven) at e) in
+                          let u = and-out (every-record test (block-between f (r + 1) second)) _ (rw (block-loop f r end h w x refl seven) at e) in
                           joined r second next end (omega arith) inside (λ p q. absurd (q seven)) (one .0 (u .0)) (λ k p q. absurd (omega arith)) (rest .0 (u .1)),
                       λ a. rw (block-loop f r end h w x refl seven) (and-in _ _ (one .1 (λ k u m. a k (omega arith) (omega arith))) (rest .1 (λ k u m. a k (omega arith) m))),
                     )
@@ -82,5 +82,5 @@ module _ (test : Action → Bool) (f : List ℕ) where
         ]
   ]
 
-  pub every-each : (r end : ℕ) → Walkable f r end → (every test (block-between f r end) ≡ true) ↔ AllPass r end
+  pub every-each : (r end : ℕ) → Walkable f r end → (every-record test (block-between f r end) ≡ true) ↔ AllPass r end
   every-each r end w = every-all end r end (omega arith) w

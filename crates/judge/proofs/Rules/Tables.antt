@@ -2,13 +2,13 @@
 use mathlib.Core.Path.{_≡_}
 use mathlib.Core.Logic.{_↔_}
 use mathlib.Core.List.{List, [], _∷_, _++_}
-use Prim.Native.Nat.{ℕ, zero, suc, _+_, _<_}
+use Prim.Native.Nat.{ℕ, zero, suc, _<_}
 use native.Mathlib.Decide.{decLt}
 use native.Mathlib.Numerals.{add-one}
 use native.Mathlib.Omega.{arith}
 use Rattle.model.specs.declared.Verdict.the-variants.{Accepted}
 use Rattle.model.specs.Lists.{All}
-use Rattle.model.specs.Rows.{Row, first, each}
+use Rattle.model.specs.Rows.{Row, answer-of, all-rows}
 use Rattle.reading.specs.Bytes.{table}
 use Rattle.model.proofs.Rows.{each-none, each-more, each-passed}
 
@@ -19,10 +19,10 @@ up-to P n h p i l = elim (decLt i n) [
   | no m ↦ let z : i ≡ n = omega arith in rw z p
 ]
 
-pub each-accepts : (rows : ℕ → List Row) (n : ℕ) → (Accepted ≡ first (each n rows)) ↔ ((i : ℕ) → i < n → Accepted ≡ first (rows i))
+pub each-accepts : (rows : ℕ → List Row) (n : ℕ) → (Accepted ≡ answer-of (all-rows n rows)) ↔ ((i : ℕ) → i < n → Accepted ≡ answer-of (rows i))
 each-accepts rows n = (λ e i l. each-passed rows n i e l, λ h. go n h)
   where
-    go : (n : ℕ) → ((i : ℕ) → i < n → Accepted ≡ first (rows i)) → Accepted ≡ first (each n rows)
+    go : (n : ℕ) → ((i : ℕ) → i < n → Accepted ≡ answer-of (rows i)) → Accepted ≡ answer-of (all-rows n rows)
     go zero h = each-none rows
     go (suc n) h = rw add-one at (each-more rows n (go n (λ i l. h i (omega arith))) (h n (omega arith)))
 

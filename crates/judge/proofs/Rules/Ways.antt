@@ -1,19 +1,19 @@
 -- "Where W is declared, every way through the pass, stops aside, writes every cell of the array on that side": said of the array's cells one by one.
 use mathlib.Core.Path.{_≡_, refl, sym, _∙_}
 use mathlib.Core.Logic.{_⊎_, inl, inr, _↔_}
-use mathlib.Core.List.{[]}
+use mathlib.Core.List.{List, []}
 use mathlib.Core.Bool.{Bool, true, false, true≢false}
 use Prim.Native.Nat.{ℕ, zero, suc, _+_, _-_, _<_}
 use native.Mathlib.Nat.{add-zero}
 use native.Mathlib.Omega.{arith}
-use Rattle.model.specs.Sides.{Side, Layout, span-of}
+use Rattle.model.specs.Lists.{any}
+use Rattle.model.specs.Sides.{Side, Layout, span-of, in-span}
 use Rattle.model.specs.Records.{Action}
 use Rattle.model.specs.Blocks.{Block}
-use Rattle.model.specs.Judging.{Declaration, Written, Leaves, always-writes}
+use Rattle.model.specs.Judging.{Declaration, Written, Way, Itself, writes-cell, always-writes, all-written}
 use Rattle.model.proofs.Booleans.{and-in, and-out, and-none}
 use Rattle.model.proofs.Numbering.{in-bounds, bounds-in}
 use Rattle.model.proofs.Written.{unwritten, always-written}
-use Rattle.judge.specs.Judged.{all-written}
 
 -- all cells are written exactly if each of them is
 module _ (layout : Layout) (s : Side) (body : Block Action) where
@@ -62,6 +62,10 @@ first-missed layout s body c (suc n) e = go (and-none (always-writes layout s c 
         let z : c + suc (m .index) ≡ suc c + m .index = omega arith in
         record { index = suc (m .index); low = omega (arith, m .low); missed = rw z (m .missed) }
 
+-- some way through a block leaves a cell of the declared array unwritten on the declared side
+abbrev pub Leaves : Layout → Block Action → Declaration → Type 0
+Leaves layout b d = (c : ℕ) × (in-span (span-of layout (d .array)) c ≡ true) × (cs : List Bool) × (ds : List Bool) × (w : List Action) × Way Itself b cs ds w × (any (writes-cell layout (d .side) c) w ≡ false)
+
 pub left-cells : (layout : Layout) (body : Block Action) (d : Declaration) → (all-written layout (d .side) body (span-of layout (d .array) .first) (span-of layout (d .array) .length) ≡ false) ↔ Leaves layout body d
 left-cells layout body d = (
   λ e.
@@ -69,18 +73,10 @@ left-cells layout body d = (
       let m = first-missed layout (d .side) body first _ e in
       let c = first + m .index in
       let u = unwritten layout (d .side) c body [] (m .missed) in
-      record {
-        cell = c;
-        inside = bounds-in layout (d .array) c (omega arith) (omega (arith, m .low));
-        choices = u .choices;
-        unused = [];
-        records = u .records;
-        way = u .way;
-        unwritten = u .none;
-      },
+      (c, bounds-in layout (d .array) c (omega arith) (omega (arith, m .low)), u .choices, [], u .records, u .way, u .none),
   λ l. go l (all-written layout (d .side) body (span-of layout (d .array) .first) (span-of layout (d .array) .length)) refl,
 )
   where
     go : Leaves layout body d → (z : Bool) → all-written layout (d .side) body (span-of layout (d .array) .first) (span-of layout (d .array) .length) ≡ z → z ≡ false
     go l false e = refl
-    go l true e = absurd (true≢false (sym (written-cells layout body d .0 e (l .cell) (l .inside) (l .choices) (l .unused) (l .records) (l .way)) ∙ l .unwritten))
+    go (c, inside, cs, ds, w, way, none) true e = absurd (true≢false (sym (written-cells layout body d .0 e c inside cs ds w way) ∙ none))

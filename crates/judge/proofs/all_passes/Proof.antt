@@ -3,7 +3,7 @@ use mathlib.Core.Path.{_≡_, ap, _∙_}
 use Prim.Native.Nat.{_-_, _≤_, _<_}
 use native.Mathlib.Omega.{arith}
 use Rattle.model.specs.declared.Verdict.the-variants.{Accepted}
-use Rattle.model.specs.Rows.{first}
+use Rattle.model.specs.Rows.{answer-of}
 use Rattle.reading.specs.Bytes.{body-count}
 use Rattle.model.proofs.Rows.{turned, each-none}
 use Rattle.format.proofs.Walking.{opened-facts}
@@ -15,7 +15,7 @@ use Rattle.judge.proofs.all_passes.Statement.{statement}
 use Rattle.judge.proofs.all_passes.Tie as tie
 
 abbrev Inv-loop : tie.InvT-loop
-Inv-loop plan o bodies starts b₀ b = (1 ≤ b) × (b ≤ bodies) × (Accepted ≡ first (passes-rows plan (b - 1)))
+Inv-loop plan o bodies starts b₀ b = (1 ≤ b) × (b ≤ bodies) × (Accepted ≡ answer-of (passes-rows plan (b - 1)))
 
 abbrev μ-loop : tie.MeasureT-loop
 μ-loop plan o bodies starts b₀ b = bodies - b
@@ -25,8 +25,8 @@ below : (c : tie.In-loop Inv-loop μ-loop) → c .before .loop .b < body-count (
 below c = rw (ap (λ o. o .bodies) (c .before .before .before .before .before .pre .2)) at (c .loop-test .taken)
 
 -- what it answers
-rows : (c : tie.After-judge-pass Inv-loop μ-loop) → c .judge-pass .result ≡ first (pass-rows (c .before .before .before .before .before .before .before .before .args .plan .now) (c .before .before .before .before .loop .b))
-rows c = c .judge-pass .ensures ∙ ap (λ e. first (pass-rows (c .before .before .before .before .before .before .before .before .args .plan .now) (e .body))) (c .before .extent-of .ensures)
+rows : (c : tie.After-judge-pass Inv-loop μ-loop) → c .judge-pass .result ≡ answer-of (pass-rows (c .before .before .before .before .before .before .before .before .args .plan .now) (c .before .before .before .before .loop .b))
+rows c = c .judge-pass .ensures ∙ ap (λ e. answer-of (pass-rows (c .before .before .before .before .before .before .before .before .args .plan .now) (e .body))) (c .before .extent-of .ensures)
 
 cast-bodies : tie.Need-cast-bodies Inv-loop μ-loop
 cast-bodies c = search needs

@@ -1,9 +1,9 @@
 -- `judge::first_unmet` answers number 15 by the set of the cells that every way writes. The invariant: no declaration before the i-th is unmet.
-use mathlib.Core.Path.{_≡_, refl, ap, _∙_}
+use mathlib.Core.Path.{_≡_, refl}
 use Prim.Native.Nat.{_-_, _≤_}
 use native.Mathlib.Omega.{arith}
 use Rattle.model.specs.declared.Verdict.the-variants.{Accepted}
-use Rattle.model.specs.Rows.{first, each}
+use Rattle.model.specs.Rows.{answer-of, all-rows}
 use Rattle.model.proofs.Rows.{refused, holds, skips, empty, each-none, each-more, each-stop}
 use Rattle.passes.proofs.Records.{declared-low, records-low, records-inside}
 use Rattle.judge.specs.Judged.{w-rows}
@@ -12,7 +12,7 @@ use Rattle.judge.proofs.first_unmet.Statement.{statement}
 use Rattle.judge.proofs.first_unmet.Tie as tie
 
 abbrev Inv-loop : tie.InvT-loop
-Inv-loop plan starts set e i₀ i = (i ≤ e .declarations) × (Accepted ≡ first (each i (w-rows plan (e .body))))
+Inv-loop plan starts set e i₀ i = (i ≤ e .declarations) × (Accepted ≡ answer-of (all-rows i (w-rows plan (e .body))))
 
 abbrev μ-loop : tie.MeasureT-loop
 μ-loop plan starts set e i₀ i = e .declarations - i

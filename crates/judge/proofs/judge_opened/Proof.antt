@@ -3,7 +3,7 @@ use mathlib.Core.Path.{_≡_, sym, ap, _∙_}
 use Rattle.model.specs.declared.Verdict.the-variants.{Accepted}
 use Rattle.reading.specs.Bytes.{kind-of}
 use Rattle.format.specs.Opening.{opening}
-use Rattle.contents.specs.Found.{found}
+use Rattle.contents.specs.Inner.Findings.{found}
 use Rattle.model.proofs.Rows.{turned}
 use Rattle.format.proofs.Walking.{verdict-is, found-is}
 use Rattle.judge.proofs.Laws.Passes.{judged-opening, judged-plain, judged-passes}

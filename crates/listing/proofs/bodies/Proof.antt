@@ -5,7 +5,7 @@ use Prim.Native.Nat.{ℕ, _≤_, _-_}
 use native.Mathlib.Omega.{arith}
 use Rattle.reading.specs.Bytes.{body-count}
 use Rattle.contents.specs.declared.Opened.{Opened}
-use Rattle.contents.specs.Found.{found}
+use Rattle.contents.specs.Inner.Findings.{found}
 use borrow.Author.Needs.{needs}
 use Rattle.listing.proofs.bodies.Statement.{statement}
 use Rattle.listing.proofs.bodies.Tie as tie

@@ -1,5 +1,5 @@
 -- `copy_blocks` copies the cells of a range by blocks of 8, the last first. The invariant: the cells from c up to `to` are copied, and every other is as it was.
-use Prim.Native.Nat.{_-_, _≤_}
+use Prim.Native.Nat.{_≤_}
 use native.Mathlib.Omega.{arith}
 use lib.ListN.{getD}
 use Rattle.memories.specs.Inner.Ranges.{Changed}

@@ -1,6 +1,6 @@
 -- `copy_cells` copies the cells of a range. The invariant: the cells from c on are copied, and every other is as it was.
 use mathlib.Core.Path.{_≡_, _∙_}
-use Prim.Native.Nat.{_-_, _≤_}
+use Prim.Native.Nat.{_≤_}
 use native.Mathlib.Omega.{arith}
 use lib.ListN.{getD}
 use Rattle.memories.specs.Inner.Ranges.{Changed}

@@ -1,68 +1,72 @@
--- The cells that a run moves are those of the arrays whose needs copied.
+-- The cells that a run moves are those that its needs and marks move.
 use Prim.Native.Nat.{ℕ, _+_}
 use mathlib.Core.Path.{_≡_, refl, ap, sym, _∙_}
-use mathlib.Core.List.{List, _∷_}
-use mathlib.Core.Bool.{Bool, true, false, cond, not, false≢true}
+use mathlib.Core.List.{List, [], _∷_, reverseAux as onto}
+use mathlib.Core.Bool.{Bool, true, false≢true}
 use native.Mathlib.Omega.{arith}
-use Rattle.model.specs.Sides.{Side, other, Layout, span-of}
+use Rattle.model.specs.declared.Tally.{Tally}
+use Rattle.model.specs.Sides.{Layout}
 use Rattle.model.specs.Records.{Verb, read, write, copy, need, mark, Action, whole-of, cover-count}
-use Rattle.model.specs.Effects.{Flags, State, Deed, nothing, moves, counted, deed}
+use Rattle.model.specs.Effects.{State, Deed, nothing, gets, puts, moves, counted, deed}
 use Rattle.model.specs.Runs.{Event, tally}
 use Rattle.model.specs.Judging.{Declaration, DeclaredPlan, permits, Accepts}
-use Rattle.model.specs.Demand.{moved-cells}
-use Rattle.model.proofs.Needs.{flag-set, flag-clear}
-use Rattle.model.proofs.Numbering.{whole-count}
 use Rattle.model.proofs.Runs.{event}
 use Rattle.model.proofs.Stamps.{as-verb}
 use Rattle.model.proofs.Demand.Declarations.{barred}
-use Rattle.model.proofs.Demand.Stages.{Stage, in-body, declaring, marking, Progress, Stages, begins, calls, enters, needs, marks, needs-first, marks-then, acts, branches, loops, branches0, loops0, judged, permitted-now}
+use Rattle.model.proofs.Demand.Stages.{Stage, Progress, Stages, begins, calls, enters, needs, marks, needs-first, marks-then, acts, branches, loops, branches0, loops0, judged, permitted-now, whole-events, permitted-whole}
 
--- a record of a pass moves nothing
-still : (layout : Layout) (ds : List Declaration) (x : Action) (σ : State) (l : List Event) → permits ds x ≡ true → tally layout (event x σ ∷ l) .moved ≡ tally layout l .moved
-still layout ds x σ l e = go (x .verb) e
-  where
-    go : (v : Verb) → permits ds (as-verb v x) ≡ true → tally layout (event (as-verb v x) σ ∷ l) .moved ≡ tally layout l .moved
-    go read e = refl
-    go write e = refl
-    go copy e = absurd (false≢true (sym (barred (x .side) (x .name) ds) ∙ e))
-    go need e = absurd (false≢true (sym (barred (x .side) (x .name) ds) ∙ e))
-    go mark e = refl
+-- what one more record moves does not depend on what was moved before
+added : (d : Deed) (n : ℕ) (t u : Tally) → t .moved ≡ u .moved → counted d n t .moved ≡ counted d n u .moved
+added nothing n t u e = e
+added (gets s) n t u e = e
+added (puts s) n t u e = e
+added (moves from to) n t u e = omega (arith, e)
 
--- a need moves its array if it copies
-moved-by : (layout : Layout) (s : Side) (a : ℕ) (σ : State) (l : List Event) →
-    tally layout (event (whole-of need s a) σ ∷ l) .moved ≡ tally layout l .moved + cond (not (σ .flags a .flag s)) (span-of layout a .length) 0
-moved-by layout s a σ l = go (σ .flags a .flag s) refl
-  where
-    n : ℕ
-    n = cover-count layout (whole-of need s a)
+module _ (layout : Layout) where
+  -- a record of a pass moves nothing
+  still : (ds : List Declaration) (x : Action) (σ : State) (l : List Event) → permits ds x ≡ true → tally layout (event 0 x σ ∷ l) .moved ≡ tally layout l .moved
+  still ds x σ l e = go (x .verb) e
+    where
+      go : (v : Verb) → permits ds (as-verb v x) ≡ true → tally layout (event 0 (as-verb v x) σ ∷ l) .moved ≡ tally layout l .moved
+      go read e = refl
+      go write e = refl
+      go copy e = absurd (false≢true (sym (barred (x .side) (x .name) ds) ∙ e))
+      go need e = absurd (false≢true (sym (barred (x .side) (x .name) ds) ∙ e))
+      go mark e = refl
 
-    by-deed : (d : Deed) → deed (whole-of need s a) σ ≡ d → tally layout (event (whole-of need s a) σ ∷ l) .moved ≡ counted d n (tally layout l) .moved
-    by-deed d e = ap (λ d. counted d n (tally layout l) .moved) e
+  -- the order makes no difference
+  pub moved-onto : (l rest : List Event) → tally layout (onto l rest) .moved ≡ tally layout l .moved + tally layout rest .moved
+  moved-onto [] rest = omega arith
+  moved-onto (e ∷ l) rest = moved-onto l (e ∷ rest) ∙ go (e .deed)
+    where
+      n : ℕ
+      n = cover-count layout (e .action)
 
-    go : (b : Bool) → σ .flags a .flag s ≡ b → tally layout (event (whole-of need s a) σ ∷ l) .moved ≡ tally layout l .moved + cond (not b) (span-of layout a .length) 0
-    go true e = by-deed nothing (ap (λ (r : Deed × Flags). r .0) (flag-set s (σ .flags a) e)) ∙ omega arith
-    go false e = by-deed (moves (other s) s) (ap (λ (r : Deed × Flags). r .0) (flag-clear s (σ .flags a) e)) ∙ rw (whole-count layout (whole-of need s a) refl)
+      go : (d : Deed) → tally layout l .moved + counted d n (tally layout rest) .moved ≡ counted d n (tally layout l) .moved + tally layout rest .moved
+      go nothing = refl
+      go (gets s) = refl
+      go (puts s) = refl
+      go (moves from to) = omega arith
 
 module _ (plan : DeclaredPlan) (cs : List Bool) (ok : Accepts plan) where
-  abbrev layout : Layout
-  layout = plan .layout
+  one-more : (x : Action) (σ : State) (l : List Event) → tally (plan .layout) l .moved ≡ tally (plan .layout) (whole-events l) .moved →
+      tally (plan .layout) (event 0 x σ ∷ l) .moved ≡ tally (plan .layout) (event 0 x σ ∷ whole-events l) .moved
+  one-more x σ l e = added (deed x σ) (cover-count (plan .layout) x) (tally (plan .layout) l) (tally (plan .layout) (whole-events l)) e
 
-  -- the need of an RW moves the array before the RW counts as made
-  abbrev Added : Stage → Progress → Type 0
-  Added (in-body p b t) n = tally layout (n .history) .moved ≡ moved-cells layout (n .made)
-  Added (declaring p ds t) n = tally layout (n .history) .moved ≡ moved-cells layout (n .made)
-  Added (marking p s a m ds t) n = tally layout (n .history) .moved ≡ moved-cells layout (n .made) + cond m (span-of layout a .length) 0
-
-  pub adds-all : {k : Stage} {ch : List Bool} {n : Progress} → Stages plan cs k ch n → Added k n
-  adds-all begins = refl
-  adds-all (calls h) = adds-all h
-  adds-all (enters h) = adds-all h
-  adds-all (needs {s = s} {a} {n = n} h) = moved-by layout s a (n .state) (n .history) ∙ rw (adds-all h)
-  adds-all (marks h) = omega (arith, adds-all h)
-  adds-all (needs-first {s = s} {a} {n = n} h) = moved-by layout s a (n .state) (n .history) ∙ rw (adds-all h)
-  adds-all (marks-then h) = adds-all h
-  adds-all (acts {p = p} {x = x} {n = n} h) = still layout (p .declarations) x (n .state) (n .history) (permitted-now x (judged plan cs ok h)) ∙ adds-all h
-  adds-all (branches h) = adds-all h
-  adds-all (loops h) = adds-all h
-  adds-all (branches0 h) = adds-all h
-  adds-all (loops0 h) = adds-all h
+  pub moved-whole : {k : Stage} {ch : List Bool} {n : Progress} → Stages plan cs k ch n →
+      tally (plan .layout) (n .history) .moved ≡ tally (plan .layout) (whole-events (n .history)) .moved
+  moved-whole begins = refl
+  moved-whole (calls h) = moved-whole h
+  moved-whole (enters h) = moved-whole h
+  moved-whole (needs {s = s} {a} {n = n} h) = one-more (whole-of need s a) (n .state) (n .history) (moved-whole h)
+  moved-whole (marks {s = s} {a} {n = n} h) = one-more (whole-of mark s a) (n .state) (n .history) (moved-whole h)
+  moved-whole (needs-first {s = s} {a} {n = n} h) = one-more (whole-of need s a) (n .state) (n .history) (moved-whole h)
+  moved-whole (marks-then {s = s} {a} {n = n} h) = one-more (whole-of mark s a) (n .state) (n .history) (moved-whole h)
+  moved-whole (acts {p = p} {x = x} {n = n} h) =
+      let permitted = permitted-now x (judged plan cs ok h) in
+      still (plan .layout) (p .declarations) x (n .state) (n .history) permitted
+      ∙ (moved-whole h ∙ sym (ap (λ l. tally (plan .layout) l .moved) (permitted-whole plan cs ok (p .declarations) x (n .state) (n .history) permitted)))
+  moved-whole (branches h) = moved-whole h
+  moved-whole (loops h) = moved-whole h
+  moved-whole (branches0 h) = moved-whole h
+  moved-whole (loops0 h) = moved-whole h

@@ -7,8 +7,9 @@ use mathlib.Core.Bool.{Bool, true, false, cond, _&&_, _||_, and-assoc, or-assoc}
 use Rattle.model.specs.Sides.{Side, Layout}
 use Rattle.model.specs.Records.{Action}
 use Rattle.model.specs.Blocks.{Block, act, branch, loop, _then_}
-use Rattle.model.specs.Judging.{Mode, R, W, RW, Declaration, Pass, pass-of, every, always-writes}
-use Rattle.model.specs.Expanding.{given, declared, expand}
+use Rattle.model.specs.Judging.{Mode, R, W, RW, Declaration, Pass, pass-of, every-record, always-writes}
+use Rattle.model.specs.Expanding.{given, expand}
+use Rattle.model.specs.Inner.Declared.{declaration, declared}
 use Rattle.model.proofs.Booleans.{or-out, or-left, or-right, and-out, and-in}
 
 pub then-assoc : {A : Type 0} (a b c : Block A) → (a then b) then c ≡ a then (b then c)
@@ -19,9 +20,9 @@ then-assoc (loop r x a) b c = ap (loop r x) (then-assoc a b c)
 
 declared-then : (ds : List Declaration) (a b : Block Action) → declared ds a then b ≡ declared ds (a then b)
 declared-then [] a b = refl
-declared-then (d ∷ ds) a b = go (d .mode) ∙ ap (given (d .mode) (d .side) (d .array)) (declared-then ds a b)
+declared-then (d ∷ ds) a b = go (d .mode) ∙ ap (given d) (declared-then ds a b)
   where
-    go : (m : Mode) → given m (d .side) (d .array) (declared ds a) then b ≡ given m (d .side) (d .array) (declared ds a then b)
+    go : (m : Mode) → given (declaration m (d .side) (d .array)) (declared ds a) then b ≡ given (declaration m (d .side) (d .array)) (declared ds a then b)
     go R = refl
     go W = refl
     go RW = refl
@@ -39,23 +40,23 @@ module _ (passes : List Pass) where
 
 -- what every record of a block passes, every record passes of what is left after a choice
 module _ (f : Action → Bool) where
-  every-then : (a b : Block Action) → every f (a then b) ≡ (every f a && every f b)
+  every-then : (a b : Block Action) → every-record f (a then b) ≡ (every-record f a && every-record f b)
   every-then Block.done b = refl
   every-then (act r x a) b = simp (every-then a b, and-assoc)
   every-then (branch r x y a) b = simp (every-then a b, and-assoc)
   every-then (loop r x a) b = simp (every-then a b, and-assoc)
 
-  pub every-branch : (r : ℕ) (c : Bool) (x y b : Block Action) → every f (branch r x y b) ≡ true → every f (cond c x y then b) ≡ true
-  every-branch r c x y b e = let g = and-out (every f x) _ e in let h = and-out (every f y) (every f b) (g .1) in
-      rw (every-then (cond c x y) b) (and-in _ (every f b) (arm c (g .0) (h .0)) (h .1))
+  pub every-branch : (r : ℕ) (c : Bool) (x y b : Block Action) → every-record f (branch r x y b) ≡ true → every-record f (cond c x y then b) ≡ true
+  every-branch r c x y b e = let g = and-out (every-record f x) _ e in let h = and-out (every-record f y) (every-record f b) (g .1) in
+      rw (every-then (cond c x y) b) (and-in _ (every-record f b) (arm c (g .0) (h .0)) (h .1))
     where
-      arm : (c : Bool) → every f x ≡ true → every f y ≡ true → every f (cond c x y) ≡ true
+      arm : (c : Bool) → every-record f x ≡ true → every-record f y ≡ true → every-record f (cond c x y) ≡ true
       arm true g h = g
       arm false g h = h
 
-  pub every-loop : (r : ℕ) (c : Bool) (x b : Block Action) → every f (loop r x b) ≡ true → every f (cond c (x then loop r x b) b) ≡ true
-  every-loop r true x b e = rw (every-then x (loop r x b)) (and-in (every f x) _ (and-out (every f x) (every f b) e .0) e)
-  every-loop r false x b e = and-out (every f x) (every f b) e .1
+  pub every-loop : (r : ℕ) (c : Bool) (x b : Block Action) → every-record f (loop r x b) ≡ true → every-record f (cond c (x then loop r x b) b) ≡ true
+  every-loop r true x b e = rw (every-then x (loop r x b)) (and-in (every-record f x) _ (and-out (every-record f x) (every-record f b) e .0) e)
+  every-loop r false x b e = and-out (every-record f x) (every-record f b) e .1
 
 -- a block that always writes a cell does so after a choice
 module _ (layout : Layout) (s : Side) (n : ℕ) where

@@ -12,7 +12,8 @@ use Rattle.model.specs.Sides.{Side, host, card, other, same-side, Stamp,
 use Rattle.model.specs.Records.{Verb, read, write, copy, need, mark, Action, whole-of, covers}
 use Rattle.model.specs.Effects.{Stamps, Flags, State, start, Deed, nothing, comes-to, does, effect}
 use Rattle.model.specs.Blocks.{Block, act}
-use Rattle.model.specs.Judging.{Mode, R, W, RW, R-or-RW, W-or-RW, Declaration, Pass, DeclaredPlan, pass-of, declares, permits, always-writes, Accepts}
+use Rattle.model.specs.Judging.{Mode, R, W, RW, R-or-RW, W-or-RW, Declaration, Pass, DeclaredPlan, pass-of, permits, always-writes, Accepts}
+use Rattle.model.specs.Inner.Declared.{declares}
 use Rattle.model.specs.Inner.Holders.{array-of}
 use Rattle.model.proofs.Needs.{flag-set, flag-clear}
 use Rattle.model.proofs.Numbering.{own-span, in-own, covers-array, covers-whole}

@@ -1,14 +1,16 @@
 -- What the judge's rules say of one declaration of a pass.
-use Prim.Native.Nat.{ℕ, zero, suc}
+use Prim.Native.Nat.{ℕ, zero, suc, _-_}
 use mathlib.Core.Path.{_≡_, refl, sym, _∙_, subst}
 use mathlib.Core.Logic.{_⊎_, inl, inr}
 use mathlib.Core.List.{List, [], _∷_, _++_, append-assoc}
 use mathlib.Core.Bool.{Bool, true, false, not, _&&_, _||_, true≢false}
+use lib.ListN.{getD}
 use lib.Dec.{eqb}
 use borrow.Author.Tests.{eqb-true, eq-eqb, not-true}
 use Rattle.model.specs.Lists.{any, All}
 use Rattle.model.specs.Sides.{Side, same-side, Layout}
-use Rattle.model.specs.Judging.{Mode, W, Declaration, Pass, pass-of, declared-once, declares, Written, Rules}
+use Rattle.model.specs.Judging.{Mode, W, Declaration, Pass, pass-of, declared-once, Written, Rules}
+use Rattle.model.specs.Inner.Declared.{no-pass, declares}
 use Rattle.model.proofs.Booleans.{or-out, or-left, or-right, and-out, is-true, any-append}
 
 -- whether a declaration is one of array a
@@ -78,8 +80,10 @@ module _ (layout : Layout) where
       )
 
   -- the rules hold of whatever body 0 calls
+  rules-at : (passes : List Pass) → All (Rules layout) passes → (i : ℕ) → Rules layout (getD passes i no-pass)
+  rules-at [] a i = record { once = refl; permitted = refl; written = tt }
+  rules-at (p ∷ ps) a zero = a .0
+  rules-at (p ∷ ps) a (suc i) = rules-at ps (a .1) i
+
   pub rules-of : (passes : List Pass) → All (Rules layout) passes → (b : ℕ) → Rules layout (pass-of passes b)
-  rules-of [] a b = record { once = refl; permitted = refl; written = tt }
-  rules-of (p ∷ ps) a zero = record { once = refl; permitted = refl; written = tt }
-  rules-of (p ∷ ps) a (suc zero) = a .0
-  rules-of (p ∷ ps) a (suc (suc b)) = rules-of ps (a .1) (suc b)
+  rules-of passes a b = rules-at passes a (b - 1)

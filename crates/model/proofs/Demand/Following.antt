@@ -12,10 +12,10 @@ use Rattle.model.specs.Sides.{Side, other, Layout, cell-count}
 use Rattle.model.specs.Records.{Verb, read, write, copy, need, mark, Action, whole-of, covers}
 use Rattle.model.specs.Effects.{Flags, State, current, Deed, needs as needs-cell, met, effect}
 use Rattle.model.specs.Blocks.{Block, act, branch, loop, _then_}
-use Rattle.model.specs.Runs.{Event, Config, Ending, finished, stopped, out-of-choices, Step, next, ends, carry, lowest-unmet, stop-or, step, here, onward, Run, Ends}
-use Rattle.model.specs.Judging.{Mode, R, W, RW, Declaration, Pass, DeclaredPlan, no-pass, pass-of, permits, Accepts}
-use Rattle.model.specs.Expanding.{given, declared, expand, expansion}
-use Rattle.model.specs.Demand.{Made}
+use Rattle.model.specs.Runs.{Event, Config, Ending, finished, stopped, out-of-choices, Step, next, ends, lowest-unmet, stop-or, step, here, onward, Run, Ends, carried-on, proper}
+use Rattle.model.specs.Judging.{Mode, R, W, RW, Declaration, Pass, DeclaredPlan, pass-of, permits, Accepts}
+use Rattle.model.specs.Expanding.{given, expand, expansion}
+use Rattle.model.specs.Inner.Declared.{no-pass, declaration, declared}
 use Rattle.model.specs.Inner.Holders.{array-of}
 use Rattle.model.proofs.Needs.{flag-set, flag-clear}
 use Rattle.model.proofs.Runs.{config, event}
@@ -24,8 +24,8 @@ use Rattle.model.proofs.Stamps.{as-verb}
 use Rattle.model.proofs.Unmet.{none-unmet}
 use Rattle.model.proofs.Demand.Blocks.{then-assoc, expand-then}
 use Rattle.model.proofs.Demand.Declarations.{barred}
-use Rattle.model.proofs.Demand.Numbers.{unnumbered, unnumbered-same, unnumbered-config, unnumbered-step, step-unnumbered}
-use Rattle.model.proofs.Demand.Stages.{declaration, Stage, in-body, declaring, marking, left-of, Progress, calling, Stages, begins, calls, enters, needs, marks, needs-first, marks-then, acts, branches, loops, branches0, loops0, judged, permitted-now}
+use Rattle.model.proofs.Demand.Numbers.{unnumbered, unnumbered-same, unnumbered-events, unnumbered-config, unnumbered-step, step-unnumbered}
+use Rattle.model.proofs.Demand.Stages.{Did, Stage, in-body, declaring, marking, left-of, Progress, calling, Stages, begins, calls, enters, needs, marks, needs-first, marks-then, acts, branches, loops, branches0, loops0, judged, permitted-now}
 use Rattle.model.proofs.Demand.Coherence.{Current, opposite, at-cell, own-or-other, not-covered, CoherentIn, undeclared, coherent}
 
 -- what a record of an accepted plan needs of a cell is there
@@ -71,7 +71,7 @@ module _ (plan : DeclaredPlan) (cs : List Bool) where
   -- a configuration without record numbers that stands at a stage
   pub record Follows (k : Config) : Type 0 where
     stage : Stage
-    pub made : List Made
+    pub made : List Did
     pub called : List Pass
     left : k .left ≡ unnumbered (left-of (plan .passes) stage)
     pub stages : Stages plan cs stage (k .choices) (record { state = k .state; history = k .history; made = made; called = called })
@@ -80,7 +80,7 @@ module _ (plan : DeclaredPlan) (cs : List Bool) where
   pub record Finished (choices : List Bool) (history : List Event) : Type 0 where
     pass : Pass
     pub state : State
-    pub made : List Made
+    pub made : List Did
     pub called : List Pass
     pub stages : Stages plan cs (in-body pass Block.done Block.done) choices (record { state = state; history = history; made = made; called = called })
 
@@ -91,21 +91,26 @@ module _ (plan : DeclaredPlan) (cs : List Bool) where
   Continues ch l (ends (stopped r c)) = ⊥
   Continues ch l (ends (out-of-choices r)) = Unit {0}
 
+  -- whatever numbers the records executed so far have
   abbrev ContinuesFrom : Block Action → List Bool → Progress → Type 0
-  ContinuesFrom b ch n = Continues ch (n .history) (unnumbered-step (step (plan .layout) (config b ch (n .state) (n .history))))
+  ContinuesFrom b ch n = (l : List Event) → unnumbered-events l ≡ n .history → Continues ch (n .history) (unnumbered-step (step proper (plan .layout) (config b ch (n .state) l)))
 
   at-stage : {k : Stage} {n : Progress} (b : Block Action) (ch : List Bool) → b ≡ left-of (plan .passes) k → Stages plan cs k ch n →
       Follows (config (unnumbered b) ch (n .state) (n .history))
   at-stage {k} {n} b ch e h = record { stage = k; made = n .made; called = n .called; left = ap unnumbered e; stages = h }
 
+  at-next : {k : Stage} {n : Progress} (b : Block Action) (ch : List Bool) → b ≡ left-of (plan .passes) k → Stages plan cs k ch n →
+      (l : List Event) → unnumbered-events l ≡ n .history → Follows (config (unnumbered b) ch (n .state) (unnumbered-events l))
+  at-next {k} {n} b ch e h l q = subst (λ history. Follows (config (unnumbered b) ch (n .state) history)) (sym q) (at-stage b ch e h)
+
   act-next : (r : ℕ) (x : Action) (b : Block Action) (ch : List Bool) (n : Progress) →
       ((c : ℕ) → c < cell-count (plan .layout) → met (plan .layout) x (n .state) c ≡ true) →
-      Follows (config (unnumbered b) ch (effect (plan .layout) x (n .state)) (event x (n .state) ∷ n .history)) → ContinuesFrom (act r x b) ch n
-  act-next r x b ch n f k = go (lowest-unmet (plan .layout) x (n .state)) (none-unmet (plan .layout) x (n .state) f)
+      Follows (config (unnumbered b) ch (effect (plan .layout) x (n .state)) (event 0 x (n .state) ∷ n .history)) → ContinuesFrom (act r x b) ch n
+  act-next r x b ch n f k l q = go (lowest-unmet (plan .layout) x (n .state)) (none-unmet (plan .layout) x (n .state) f)
     where
       go : (o : Option ℕ) → o ≡ none →
-          Continues ch (n .history) (unnumbered-step (stop-or r o (carry (plan .layout) (config (act r x b) ch (n .state) (n .history)))))
-      go none u = k
+          Continues ch (n .history) (unnumbered-step (stop-or r o (step carried-on (plan .layout) (config (act r x b) ch (n .state) l))))
+      go none u = subst (λ history. Follows (config (unnumbered b) ch (effect (plan .layout) x (n .state)) (event 0 x (n .state) ∷ history))) (sym q) k
       go (some c) u = let z : _≡_ {A = ℕ} 0 1 = cc in absurd (omega arith)
 
   module _ (ok : Accepts plan) where
@@ -133,7 +138,7 @@ module _ (plan : DeclaredPlan) (cs : List Bool) where
             met layout (whole-of need s a) (n .state) c ≡ true
         needed m h c i = need-met layout c (n .state) p (p .body) m s a ds (coherent plan cs ok c i h)
 
-        go : (m : Mode) → Stages plan cs (declaring p (declaration m s a ∷ ds) t) ch n → ContinuesFrom (given m s a rest) ch n
+        go : (m : Mode) → Stages plan cs (declaring p (declaration m s a ∷ ds) t) ch n → ContinuesFrom (given (declaration m s a) rest) ch n
         go R h = act-next 0 (whole-of need s a) rest ch n (needed R h) (at-stage rest ch refl (needs h))
         go W h = act-next 0 (whole-of mark s a) rest ch n (λ c i. or-true (not (covers layout (whole-of mark s a) c))) (at-stage rest ch refl (marks h))
         go RW h = act-next 0 (whole-of need s a) (act 0 (whole-of mark s a) rest) ch n (needed RW h) (at-stage (act 0 (whole-of mark s a) rest) ch refl (needs-first h))
@@ -145,29 +150,29 @@ module _ (plan : DeclaredPlan) (cs : List Bool) where
     body-next (act r x b) t p ch n more h = act-next r x (b then expand passes t) ch n
         (λ c i. act-met layout c (n .state) p (act r x b) x (permitted-now x (judged plan cs ok h)) (coherent plan cs ok c i h))
         (at-stage (b then expand passes t) ch refl (acts h))
-    body-next (branch r x y b) t p [] n more h = tt
+    body-next (branch r x y b) t p [] n more h = λ l q. tt
     body-next (branch r x y b) t p (c ∷ ch) n more h =
-        at-stage (cond c x y then (b then expand passes t)) ch (sym (then-assoc (cond c x y) b (expand passes t))) (branches h)
-    body-next (loop r x b) t p [] n more h = tt
-    body-next (loop r x b) t p (c ∷ ch) n more h = at-stage (cond c (x then loop r x (b then expand passes t)) (b then expand passes t)) ch (turn c) (loops h)
+        at-next (cond c x y then (b then expand passes t)) ch (sym (then-assoc (cond c x y) b (expand passes t))) (branches h)
+    body-next (loop r x b) t p [] n more h = λ l q. tt
+    body-next (loop r x b) t p (c ∷ ch) n more h = at-next (cond c (x then loop r x (b then expand passes t)) (b then expand passes t)) ch (turn c) (loops h)
       where
         turn : (c : Bool) → cond c (x then loop r x (b then expand passes t)) (b then expand passes t) ≡ cond c (x then loop r x b) b then expand passes t
         turn true = sym (then-assoc x (loop r x b) (expand passes t))
         turn false = refl
 
     body0-next : (t : Block ℕ) (p : Pass) (ch : List Bool) (n : Progress) → Stages plan cs (in-body p Block.done t) ch n → ContinuesFrom (expand passes t) ch n
-    body0-next Block.done p ch n h = record { pass = p; state = n .state; made = n .made; called = n .called; stages = h }
+    body0-next Block.done p ch n h = λ l q. record { pass = p; state = n .state; made = n .made; called = n .called; stages = h }
     body0-next (act r b t) p ch n h =
         let q = pass-of passes b in
         declare-next q (q .declarations) t ch (calling q n) (calls h) (body-next (q .body) t q ch (calling q n) (body0-next t q ch (calling q n)))
-    body0-next (branch r x y t) p [] n h = tt
-    body0-next (branch r x y t) p (c ∷ ch) n h = at-stage (cond c (expand passes x) (expand passes y) then expand passes t) ch (arm c) (branches0 h)
+    body0-next (branch r x y t) p [] n h = λ l q. tt
+    body0-next (branch r x y t) p (c ∷ ch) n h = at-next (cond c (expand passes x) (expand passes y) then expand passes t) ch (arm c) (branches0 h)
       where
         arm : (c : Bool) → cond c (expand passes x) (expand passes y) then expand passes t ≡ expand passes (cond c x y then t)
         arm true = sym (expand-then passes x t)
         arm false = sym (expand-then passes y t)
-    body0-next (loop r x t) p [] n h = tt
-    body0-next (loop r x t) p (c ∷ ch) n h = at-stage (cond c (expand passes x then expand passes (loop r x t)) (expand passes t)) ch (turn c) (loops0 h)
+    body0-next (loop r x t) p [] n h = λ l q. tt
+    body0-next (loop r x t) p (c ∷ ch) n h = at-next (cond c (expand passes x then expand passes (loop r x t)) (expand passes t)) ch (turn c) (loops0 h)
       where
         turn : (c : Bool) → cond c (expand passes x then expand passes (loop r x t)) (expand passes t) ≡ expand passes (cond c (x then loop r x t) t)
         turn true = sym (expand-then passes x (loop r x t))
@@ -180,16 +185,16 @@ module _ (plan : DeclaredPlan) (cs : List Bool) where
         let rest = declared ds (p .body then expand passes t) in
         act-next 0 (whole-of mark s a) rest ch n (λ c i. or-true (not (covers layout (whole-of mark s a) c))) (at-stage rest ch refl (marks-then h))
 
-    continue : (k : Config) → Follows (unnumbered-config k) → Continues (k .choices) (k .history) (unnumbered-step (step layout k))
-    continue k f = subst (Continues (k .choices) (k .history)) same (stage-next (f .stage) (k .choices) _ (f .stages))
+    continue : (k : Config) → Follows (unnumbered-config k) → Continues (k .choices) (unnumbered-events (k .history)) (unnumbered-step (step proper layout k))
+    continue k f = subst (Continues (k .choices) (unnumbered-events (k .history))) same (stage-next (f .stage) (k .choices) _ (f .stages) (k .history) refl)
       where
-        same : unnumbered-step (step layout (config (left-of passes (f .stage)) (k .choices) (k .state) (k .history))) ≡ unnumbered-step (step layout k)
+        same : unnumbered-step (step proper layout (config (left-of passes (f .stage)) (k .choices) (k .state) (k .history))) ≡ unnumbered-step (step proper layout k)
         same =
             sym (step-unnumbered layout (k .state) (k .history) (left-of passes (f .stage)) (k .choices))
-            ∙ ap (λ b. step layout (config b (k .choices) (k .state) (k .history))) (sym (f .left))
+            ∙ ap (λ b. step proper layout (config b (k .choices) (k .state) (unnumbered-events (k .history)))) (sym (f .left))
             ∙ step-unnumbered layout (k .state) (k .history) (k .left) (k .choices)
 
-    pub follows : {k : Config} → Run (expansion plan) cs k → Follows (unnumbered-config k)
+    pub follows : {k : Config} → Run proper (expansion plan) cs k → Follows (unnumbered-config k)
     follows here = record {
       stage = in-body no-pass Block.done (plan .body0);
       made = [];
@@ -197,7 +202,7 @@ module _ (plan : DeclaredPlan) (cs : List Bool) where
       left = unnumbered-same 0 (expand passes (plan .body0));
       stages = begins;
     }
-    follows (onward {k = k} h e) = subst (λ s. Continues (k .choices) (k .history) (unnumbered-step s)) e (continue k (follows h))
+    follows (onward {k = k} h e) = subst (λ s. Continues (k .choices) (unnumbered-events (k .history)) (unnumbered-step s)) e (continue k (follows h))
 
-    pub at-end : {k : Config} {e : Ending} → Ends (expansion plan) cs k e → Continues (k .choices) (k .history) (unnumbered-step (ends e))
-    at-end {k} f = subst (λ s. Continues (k .choices) (k .history) (unnumbered-step s)) (f .last) (continue k (follows (f .run)))
+    pub at-end : {k : Config} {e : Ending} → Ends (expansion plan) cs k e → Continues (k .choices) (unnumbered-events (k .history)) (unnumbered-step (ends e))
+    at-end {k} f = subst (λ s. Continues (k .choices) (unnumbered-events (k .history)) (unnumbered-step s)) (f .last) (continue k (follows (f .run)))

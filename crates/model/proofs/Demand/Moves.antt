@@ -2,7 +2,7 @@
 use Prim.Native.Nat.{ℕ, suc}
 use mathlib.Core.Path.{_≡_, refl, ap, sym, _∙_, subst}
 use mathlib.Core.List.{List, [], _∷_, _++_, reverseAux as onto}
-use mathlib.Core.Bool.{Bool, true, false, cond, not, _&&_, _||_, and-true, or-true, or-false, true≢false, false≢true}
+use mathlib.Core.Bool.{Bool, true, false, cond, not, _&&_, _||_, and-true, and-false, or-true, or-false, true≢false, false≢true}
 use lib.Dec.{eqb}
 use borrow.Author.Tests.{eqb-true}
 use Rattle.model.specs.Lists.{any}
@@ -11,13 +11,11 @@ use Rattle.model.specs.Records.{Verb, read, write, copy, need, mark, Act
 use Rattle.model.specs.Effects.{Flags, State, Deed, comes-to, effect}
 use Rattle.model.specs.Blocks.{Block}
 use Rattle.model.specs.Judging.{Mode, R, W, RW, R-or-RW, W-or-RW, Declaration, Pass, DeclaredPlan, permits, Accepts}
-use Rattle.model.specs.Demand.{Made, declares-read, declares-write, moves-of, MovesOnce}
-use Rattle.model.specs.Demand as Demand
 use Rattle.model.proofs.Needs.{flag-set, flag-clear}
-use Rattle.model.proofs.Booleans.{eqb-swap, is-not}
+use Rattle.model.proofs.Booleans.{eqb-swap, is-true, is-not, other-side}
 use Rattle.model.proofs.Stamps.{as-verb}
 use Rattle.model.proofs.Demand.Declarations.{barred}
-use Rattle.model.proofs.Demand.Stages.{Stage, in-body, declaring, marking, Progress, Stages, begins, calls, enters, needs, marks, needs-first, marks-then, acts, branches, loops, branches0, loops0, judged, permitted-now}
+use Rattle.model.proofs.Demand.Stages.{Did, Stage, in-body, declaring, marking, Progress, Stages, begins, calls, enters, needs, marks, needs-first, marks-then, acts, branches, loops, branches0, loops0, judged, permitted-now}
 
 -- an interval of an array so far: the side of the declared write that begins it, and whether R has been declared on the opposite side since
 record Interval : Type 0 where
@@ -38,24 +36,42 @@ abbrev flags : Interval → Side → Bool
 flags i t = same-side t (i .writer) || i .shared
 
 module _ (a : ℕ) where
-  -- an interval in order
-  abbrev interval-from : List Made → List Made
-  interval-from l = Demand.interval a l
-
   -- whether a declaration is one of the array
-  abbrev own : Made → Bool
+  abbrev own : Did → Bool
   own d = eqb (d .declaration .array) a
 
+  -- a declared write of the array
+  abbrev pub did-write : Did → Bool
+  did-write d = own d && W-or-RW (d .declaration .mode)
+
+  -- R or RW of the array on side t
+  abbrev pub did-read : Side → Did → Bool
+  did-read t d = own d && (R-or-RW (d .declaration .mode) && same-side (d .declaration .side) t)
+
+  -- a copy of it to side t
+  abbrev pub did-copy : Side → Did → Bool
+  did-copy t d = own d && (d .copied && same-side (d .declaration .side) t)
+
+  -- how often it was copied there
+  abbrev pub copies : Side → List Did → ℕ
+  copies t [] = 0
+  copies t (d ∷ l) = cond (did-copy t d) (suc (copies t l)) (copies t l)
+
+  -- an interval in order
+  abbrev pub interval-from : List Did → List Did
+  interval-from [] = []
+  interval-from (d ∷ l) = cond (did-write d) (d ∷ []) (d ∷ interval-from l)
+
   -- the interval that declarations end in, the last one first
-  abbrev interval-of : List Made → Interval
+  abbrev interval-of : List Did → Interval
   interval-of [] = interval host false
   interval-of (d ∷ l) = cond (own d) (extended (d .declaration .mode) (d .declaration .side) (interval-of l)) (interval-of l)
 
   -- the need of a declaration of the array, if it has one, copied exactly if its flag was not set
-  abbrev ExactIn : Interval → Made → Type 0
+  abbrev ExactIn : Interval → Did → Type 0
   ExactIn i d = own d ≡ true → d .copied ≡ (R-or-RW (d .declaration .mode) && not (flags i (d .declaration .side)))
 
-  abbrev Exact : List Made → Type 0
+  abbrev Exact : List Did → Type 0
   Exact [] = Unit {0}
   Exact (d ∷ l) = ExactIn (interval-of l) d × Exact l
 
@@ -94,7 +110,7 @@ module _ (a : ℕ) where
       go true q = rw (q, or-false (same-side t s))
       go false q = rw q (f q t)
 
-  record Counted (σ : State) (made : List Made) : Type 0 where
+  record Counted (σ : State) (made : List Did) : Type 0 where
     flagged : Flagged σ (interval-of made)
     exact : Exact made
 
@@ -104,7 +120,7 @@ module _ (a : ℕ) where
   CountedAt (declaring p ds t) n = Counted (n .state) (n .made)
   CountedAt (marking p s b m ds t) n = Unit {0}
 
-  act-counted : (layout : Layout) (ds : List Declaration) (x : Action) (σ : State) (made : List Made) → permits ds x ≡ true → Counted σ made →
+  act-counted : (layout : Layout) (ds : List Declaration) (x : Action) (σ : State) (made : List Did) → permits ds x ≡ true → Counted σ made →
       Counted (effect layout x σ) made
   act-counted layout ds x σ l e k = go (x .verb) e
     where
@@ -153,29 +169,29 @@ module _ (a : ℕ) where
     counted (loops0 h) = counted h
 
   -- the interval after one more declaration
-  abbrev next : Interval → Made → Interval
+  abbrev next : Interval → Did → Interval
   next i d = cond (own d) (extended (d .declaration .mode) (d .declaration .side) i) i
 
   -- the same of declarations in order, from an interval on
-  abbrev ExactFrom : Interval → List Made → Type 0
+  abbrev ExactFrom : Interval → List Did → Type 0
   ExactFrom i [] = Unit {0}
   ExactFrom i (d ∷ l) = ExactIn i d × ExactFrom (next i d) l
 
-  in-order : (l rest : List Made) → Exact l → ExactFrom (interval-of l) rest → ExactFrom (interval host false) (onto l rest)
+  in-order : (l rest : List Did) → Exact l → ExactFrom (interval-of l) rest → ExactFrom (interval host false) (onto l rest)
   in-order [] rest x y = y
   in-order (d ∷ l) rest x y = in-order l (d ∷ rest) (x .1) (x .0, y)
 
   -- what follows some of them
-  record From (l : List Made) : Type 0 where
+  record From (l : List Did) : Type 0 where
     reached : Interval
     exact : ExactFrom reached l
 
-  following : (before l : List Made) (i : Interval) → ExactFrom i (before ++ l) → From l
+  following : (before l : List Did) (i : Interval) → ExactFrom i (before ++ l) → From l
   following [] l i x = record { reached = i; exact = x }
   following (d ∷ before) l i x = following before l (next i d) (x .1)
 
   -- a declared write begins an interval on its side
-  begun : (d : Made) (i : Interval) → declares-write a d ≡ true → next i d ≡ interval (d .declaration .side) false
+  begun : (d : Did) (i : Interval) → did-write d ≡ true → next i d ≡ interval (d .declaration .side) false
   begun d i e = go (own d) (d .declaration .mode) e
     where
       go : (o : Bool) (m : Mode) → (o && W-or-RW m) ≡ true → cond o (extended m (d .declaration .side) i) i ≡ interval (d .declaration .side) false
@@ -192,60 +208,83 @@ module _ (a : ℕ) where
   extended-by-read true RW s w b e = absurd (true≢false e)
   extended-by-read false m s w b e = refl
 
-  -- its array moves if it is the first to read on the opposite side
-  copies-first : (d : Made) (w : Side) (b : Bool) → ExactIn (interval w b) d → (own d && d .copied) ≡ (declares-read a (other w) d && not b)
-  copies-first d w b x = rw (is-not (d .declaration .side) w) (go (own d) x)
+  -- its array is copied to side t if it is the first to read there, and t is the opposite side
+  copies-first : (d : Did) (w t : Side) (b : Bool) → ExactIn (interval w b) d → did-copy t d ≡ ((not (same-side t w) && did-read t d) && not b)
+  copies-first d w t b x = go (own d) x
     where
-      first : (r o b : Bool) → (r && not (o || b)) ≡ ((r && not o) && not b)
-      first false o b = refl
-      first true true b = refl
-      first true false b = refl
+      s : Side
+      s = d .declaration .side
 
-      go : (o : Bool) → (o ≡ true → d .copied ≡ (R-or-RW (d .declaration .mode) && not (flags (interval w b) (d .declaration .side)))) →
-          (o && d .copied) ≡ ((o && (R-or-RW (d .declaration .mode) && not (same-side (d .declaration .side) w))) && not b)
-      go true g = g refl ∙ first (R-or-RW (d .declaration .mode)) (same-side (d .declaration .side) w) b
-      go false g = refl
+      r : Bool
+      r = R-or-RW (d .declaration .mode)
+
+      first : (r o b : Bool) → ((r && not (o || b)) && true) ≡ ((not o && (r && true)) && not b)
+      first false true b = refl
+      first false false b = refl
+      first true true b = refl
+      first true false true = refl
+      first true false false = refl
+
+      by-side : (z : Bool) → same-side s t ≡ z → ((r && not (same-side s w || b)) && z) ≡ ((not (same-side t w) && (r && z)) && not b)
+      by-side true e = rw (← is-true s t e) (first r (same-side s w) b)
+      by-side false e = rw (and-false (r && not (same-side s w || b)), and-false r, and-false (not (same-side t w)))
+
+      go : (o : Bool) → (o ≡ true → d .copied ≡ (r && not (flags (interval w b) s))) →
+          (o && (d .copied && same-side s t)) ≡ ((not (same-side t w) && (o && (r && same-side s t))) && not b)
+      go true g = rw (g refl) (by-side (same-side s t) refl)
+      go false g = rw (and-false (not (same-side t w)))
 
   -- in an interval that a write on side w began, and in which the opposite side has read or has not
-  counts : (w : Side) (b : Bool) (l : List Made) → ExactFrom (interval w b) l →
-      moves-of a (interval-from l) ≡ cond (any (declares-read a (other w)) (interval-from l) && not b) 1 0
-  counts w b [] x = refl
-  counts w b (d ∷ l) x = go (declares-write a d) refl (counts w (declares-read a (other w) d || b) l)
+  counts : (w t : Side) (b : Bool) (l : List Did) → ExactFrom (interval w b) l →
+      copies t (interval-from l) ≡ cond ((not (same-side t w) && any (did-read t) (interval-from l)) && not b) 1 0
+  counts w t b [] x = rw (and-false (not (same-side t w)))
+  counts w t b (d ∷ l) x = go (did-write d) refl (counts w t (did-read (other w) d || b) l)
     where
-      reads : Bool
-      reads = declares-read a (other w) d
+      far : Bool
+      far = not (same-side t w)
 
-      last : (r : Bool) → _≡_ {A = ℕ} (cond (r && not b) 1 0) (cond ((r || false) && not b) 1 0)
-      last true = refl
-      last false = refl
+      last : (f r : Bool) → _≡_ {A = ℕ} (cond ((f && r) && not b) 1 0) (cond ((f && (r || false)) && not b) 1 0)
+      last true true = refl
+      last true false = refl
+      last false r = refl
 
-      more : (r b m : Bool) (k : ℕ) → k ≡ cond (m && not (r || b)) 1 0 → cond (r && not b) (suc k) k ≡ cond ((r || m) && not b) 1 0
-      more true true true k e = e
-      more true true false k e = e
-      more true false true k e = ap suc e
-      more true false false k e = ap suc e
-      more false b m k e = e
+      -- the declarations that read on the opposite side are those that read on side t, where that is the opposite side
+      more : (f r q b m : Bool) (k : ℕ) → (f ≡ true → q ≡ r) → k ≡ cond ((f && m) && not (q || b)) 1 0 → cond ((f && r) && not b) (suc k) k ≡ cond ((f && (r || m)) && not b) 1 0
+      more false r q b m k h e = e
+      more true true true true m k h e = e ∙ rw (and-false m)
+      more true true true false m k h e = ap suc (e ∙ rw (and-false m))
+      more true true false b m k h e = absurd (false≢true (h refl))
+      more true false true b m k h e = absurd (true≢false (h refl))
+      more true false false b m k h e = e
 
-      go : (z : Bool) → declares-write a d ≡ z →
-          (ExactFrom (interval w (reads || b)) l → moves-of a (interval-from l) ≡ cond (any (declares-read a (other w)) (interval-from l) && not (reads || b)) 1 0) →
-          moves-of a (cond z (d ∷ []) (d ∷ interval-from l)) ≡ cond (any (declares-read a (other w)) (cond z (d ∷ []) (d ∷ interval-from l)) && not b) 1 0
-      go true e ih = rw (copies-first d w b (x .0)) (last reads)
+      opposite : far ≡ true → did-read (other w) d ≡ did-read t d
+      opposite e = ap (λ z. did-read z d) (other-side t w e)
+
+      go : (z : Bool) → did-write d ≡ z →
+          (ExactFrom (interval w (did-read (other w) d || b)) l → copies t (interval-from l) ≡ cond ((far && any (did-read t) (interval-from l)) && not (did-read (other w) d || b)) 1 0) →
+          copies t (cond z (d ∷ []) (d ∷ interval-from l)) ≡ cond ((far && any (did-read t) (cond z (d ∷ []) (d ∷ interval-from l))) && not b) 1 0
+      go true e ih = rw (copies-first d w t b (x .0)) (last far (did-read t d))
       go false e ih =
           let i = extended-by-read (own d) (d .declaration .mode) (d .declaration .side) w b e in
-          rw (copies-first d w b (x .0)) (more reads b (any (declares-read a (other w)) (interval-from l)) (moves-of a (interval-from l)) (ih (subst (λ j. ExactFrom j l) i (x .1))))
+          rw (copies-first d w t b (x .0))
+          (more far (did-read t d) (did-read (other w) d) b (any (did-read t) (interval-from l)) (copies t (interval-from l)) opposite (ih (subst (λ j. ExactFrom j l) i (x .1))))
 
-  once : (w : Side) (l : List Made) → ExactFrom (interval w false) l → MovesOnce a w (interval-from l)
-  once w l x = counts w false l x ∙ ap (λ z. cond z 1 0) (and-true (any (declares-read a (other w)) (interval-from l)))
+  -- one copy to the opposite side if that reads, and no other
+  abbrev pub CopiesOnce : Side → List Did → Type 0
+  CopiesOnce w l = (t : Side) → copies t l ≡ cond (not (same-side t w) && any (did-read t) l) 1 0
+
+  once : (w : Side) (l : List Did) → ExactFrom (interval w false) l → CopiesOnce w (interval-from l)
+  once w l x t = counts w t false l x ∙ ap (λ z. cond z 1 0) (and-true (not (same-side t w) && any (did-read t) (interval-from l)))
 
   module _ (plan : DeclaredPlan) (cs : List Bool) (ok : Accepts plan) {p : Pass} {ch : List Bool} {n : Progress} (h : Stages plan cs (in-body p Block.done Block.done) ch n) where
     ordered : ExactFrom (interval host false) (onto (n .made) [])
     ordered = in-order (n .made) [] (counted plan cs ok h .exact) tt
 
-    pub once-from-start : MovesOnce a host (interval-from (onto (n .made) []))
+    pub once-from-start : CopiesOnce host (interval-from (onto (n .made) []))
     once-from-start = once host (onto (n .made) []) ordered
 
-    pub once-from-write : (before after : List Made) (d : Made) → onto (n .made) [] ≡ before ++ (d ∷ after) → declares-write a d ≡ true →
-        MovesOnce a (d .declaration .side) (interval-from after)
+    pub once-from-write : (before after : List Did) (d : Did) → onto (n .made) [] ≡ before ++ (d ∷ after) → did-write d ≡ true →
+        CopiesOnce (d .declaration .side) (interval-from after)
     once-from-write before after d e w =
         let f = following before (d ∷ after) (interval host false) (subst (ExactFrom (interval host false)) e ordered) in
         once (d .declaration .side) after (subst (λ j. ExactFrom j after) (begun d (f .reached) w) (f .exact .1))

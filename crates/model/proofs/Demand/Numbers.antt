@@ -1,14 +1,14 @@
 -- Record numbers make no difference to a run but to the numbers that it ends with.
 use Prim.Native.Nat.{ℕ, suc}
 use mathlib.Core.Path.{_≡_, refl, ap, sym}
-use mathlib.Core.List.{List, [], _∷_}
+use mathlib.Core.List.{List, [], _∷_, map}
 use mathlib.Core.Bool.{Bool, true, false}
 use mathlib.Core.Option.{Option, none, some}
 use Rattle.model.specs.Sides.{Layout}
 use Rattle.model.specs.Effects.{State}
 use Rattle.model.specs.Records.{Action}
 use Rattle.model.specs.Blocks.{Block, done, act, branch, loop, _then_, numbered}
-use Rattle.model.specs.Runs.{Event, Config, Ending, finished, stopped, out-of-choices, Step, next, ends, carry, lowest-unmet, stop-or, step}
+use Rattle.model.specs.Runs.{Event, Config, Ending, finished, stopped, out-of-choices, Step, next, ends, lowest-unmet, stop-or, step, carried-on, proper}
 use Rattle.model.proofs.Runs.{config}
 
 -- a block with every record number 0
@@ -30,8 +30,15 @@ unnumbered-same r (act q x b) = ap (act 0 x) (unnumbered-same (suc r) b)
 unnumbered-same r (branch q x y b) = rw (unnumbered-same _ x, unnumbered-same _ y, unnumbered-same _ b)
 unnumbered-same r (loop q x b) = rw (unnumbered-same _ x, unnumbered-same _ b)
 
+-- executed records with every number 0
+abbrev pub unnumbered-event : Event → Event
+unnumbered-event e = record { number = 0; action = e .action; deed = e .deed }
+
+abbrev pub unnumbered-events : List Event → List Event
+unnumbered-events l = map unnumbered-event l
+
 abbrev pub unnumbered-config : Config → Config
-unnumbered-config k = config (unnumbered (k .left)) (k .choices) (k .state) (k .history)
+unnumbered-config k = config (unnumbered (k .left)) (k .choices) (k .state) (unnumbered-events (k .history))
 
 abbrev unnumbered-ending : Ending → Ending
 unnumbered-ending finished = finished
@@ -44,14 +51,14 @@ unnumbered-step (ends e) = ends (unnumbered-ending e)
 
 module _ (layout : Layout) (σ : State) (l : List Event) where
   abbrev to : List Bool → Block Action → Step
-  to cs b = next (config b cs σ l)
+  to cs b = next (config b cs σ (unnumbered-events l))
 
-  pub step-unnumbered : (b : Block Action) (cs : List Bool) → step layout (config (unnumbered b) cs σ l) ≡ unnumbered-step (step layout (config b cs σ l))
+  pub step-unnumbered : (b : Block Action) (cs : List Bool) → step proper layout (config (unnumbered b) cs σ (unnumbered-events l)) ≡ unnumbered-step (step proper layout (config b cs σ l))
   step-unnumbered done cs = refl
   step-unnumbered (act r x b) cs = go (lowest-unmet layout x σ)
     where
       go : (o : Option ℕ) →
-          stop-or 0 o (carry layout (config (act 0 x (unnumbered b)) cs σ l)) ≡ unnumbered-step (stop-or r o (carry layout (config (act r x b) cs σ l)))
+          stop-or 0 o (step carried-on layout (config (act 0 x (unnumbered b)) cs σ (unnumbered-events l))) ≡ unnumbered-step (stop-or r o (step carried-on layout (config (act r x b) cs σ l)))
       go none = refl
       go (some c) = refl
   step-unnumbered (branch r x y b) [] = refl

@@ -5,14 +5,15 @@ use mathlib.Core.Path.{_≡_, refl, ap, sym, _∙_}
 use mathlib.Core.List.{List, [], _∷_, map, reverseAux as onto}
 use mathlib.Core.Bool.{Bool, true, false, cond, not, false≢true}
 use Rattle.model.specs.Lists.{keep, All}
-use Rattle.model.specs.Sides.{Side, Layout}
+use Rattle.model.specs.Sides.{Side, other, Layout}
 use Rattle.model.specs.Records.{Verb, read, write, copy, need, mark, whole, Action, whole-of}
-use Rattle.model.specs.Effects.{Flags, State, start, Deed, deed, effect}
+use Rattle.model.specs.Effects.{Flags, State, start, Deed, nothing, moves, deed, effect}
 use Rattle.model.specs.Blocks.{Block, act, branch, loop, _then_}
 use Rattle.model.specs.Runs.{Event}
-use Rattle.model.specs.Judging.{Mode, R, W, RW, Declaration, Pass, DeclaredPlan, no-pass, pass-of, declared-once, permits, every, Way, at-end, passing, Itself, itself, Accepts}
-use Rattle.model.specs.Expanding.{declared, expand}
-use Rattle.model.specs.Demand.{Called, called, Calls, Made, copied-if, executed}
+use Rattle.model.specs.Judging.{Mode, R, W, RW, Declaration, Pass, DeclaredPlan, pass-of, declared-once, permits, every-record, Way, at-end, passing, Itself, itself, Accepts}
+use Rattle.model.specs.Expanding.{expand}
+pub use Rattle.model.specs.Inner.Declared.{no-pass, declaration, declared}
+use Rattle.model.specs.Demand.{Called, called, Calls}
 use Rattle.model.proofs.Booleans.{and-out}
 use Rattle.model.proofs.Needs.{flag-set, flag-clear}
 use Rattle.model.proofs.Runs.{event}
@@ -20,9 +21,6 @@ use Rattle.model.proofs.Stamps.{as-verb}
 use Rattle.model.proofs.Demand.Blocks.{every-branch, every-loop}
 use Rattle.model.proofs.Demand.Walks.{way-branch, way-loop}
 use Rattle.model.proofs.Demand.Declarations.{barred, Rule, each-rule, rules-of, once-rest}
-
-abbrev pub declaration : Mode → Side → ℕ → Declaration
-declaration m s a = record { mode = m; side = s; array = a }
 
 -- where a run stands: in the body of a pass, with a block of it left; with declarations of a pass still to make;
 -- or between the need and the mark of an RW, with whether the need copied. Each with what is left of body 0.
@@ -58,11 +56,35 @@ left-of passes (in-body p b t) = b then expand passes t
 left-of passes (declaring p ds t) = declared ds (p .body then expand passes t)
 left-of passes (marking p s a m ds t) = act 0 (whole-of mark s a) (declared ds (p .body then expand passes t))
 
+-- a declaration that a run has made, and whether its need copied
+pub record Did : Type 0 where
+  pub declaration : Declaration
+  pub copied : Bool
+
+-- what a need on side s came to: a copy, or nothing
+abbrev pub copied-if : Bool → Side → Deed
+copied-if m s = cond m (moves (other s) s) nothing
+
+-- its needs and marks as executed, without their numbers (a mark comes to nothing, and `copied` is false of a W)
+abbrev pub executed-as : Mode → Side → ℕ → Bool → List Event
+executed-as m s a copied = go m
+  where
+    gave : Verb → Deed → Event
+    gave v e = record { number = 0; action = whole-of v s a; deed = e }
+
+    go : Mode → List Event
+    go R = gave need (copied-if copied s) ∷ []
+    go W = gave mark (copied-if copied s) ∷ []
+    go RW = gave need (copied-if copied s) ∷ (gave mark nothing ∷ [])
+
+abbrev pub executed : Did → List Event
+executed d = executed-as (d .declaration .mode) (d .declaration .side) (d .declaration .array) (d .copied)
+
 -- what a run has done: its state and history, the declarations made and the passes called, the last one first
 pub record Progress : Type 0 where
   pub state : State
   pub history : List Event
-  pub made : List Made
+  pub made : List Did
   pub called : List Pass
 
 -- what each of a list gives, the last one first
@@ -75,12 +97,12 @@ abbrev declarations-of : List Pass → List Declaration
 declarations-of ps = all-onto (λ (p : Pass). p .declarations) ps
 
 -- the needs and marks of declarations made
-abbrev executed-of : List Made → List Event
+abbrev executed-of : List Did → List Event
 executed-of l = all-onto executed l
 
 -- the needs and marks of a history
-abbrev pub asked : List Event → List Event
-asked l = keep (λ (e : Event). whole (e .action .verb)) l
+abbrev pub whole-events : List Event → List Event
+whole-events l = keep (λ (e : Event). whole (e .action .verb)) l
 
 abbrev making : Mode → Side → ℕ → Bool → Progress → Progress
 making m s a copied n = record { state = n .state; history = n .history; made = record { declaration = declaration m s a; copied = copied } ∷ n .made; called = n .called }
@@ -90,7 +112,7 @@ calling p n = record { state = n .state; history = n .history; made = n .made; c
 
 module _ (plan : DeclaredPlan) (cs : List Bool) where
   abbrev executing : Action → Progress → Progress
-  executing x n = record { state = effect (plan .layout) x (n .state); history = event x (n .state) ∷ n .history; made = n .made; called = n .called }
+  executing x n = record { state = effect (plan .layout) x (n .state); history = event 0 x (n .state) ∷ n .history; made = n .made; called = n .called }
 
   abbrev first : Progress
   first = record { state = start (plan .layout); history = []; made = []; called = [] }
@@ -171,7 +193,7 @@ module _ (plan : DeclaredPlan) (cs : List Bool) where
 
   -- the declarations made, and then those ahead, are those of the passes called
   pub declares-all : {k : Stage} {ch : List Bool} {n : Progress} → Stages k ch n →
-      onto (ahead k) (map (λ (d : Made). d .declaration) (n .made)) ≡ declarations-of (n .called)
+      onto (ahead k) (map (λ (d : Did). d .declaration) (n .made)) ≡ declarations-of (n .called)
   declares-all begins = refl
   declares-all (calls {b = b} h) = ap (onto (pass-of (plan .passes) b .declarations)) (declares-all h)
   declares-all (enters h) = declares-all h
@@ -189,7 +211,7 @@ module _ (plan : DeclaredPlan) (cs : List Bool) where
 pub record Judged (layout : Layout) (p : Pass) (ds : List Declaration) (b : Block Action) : Type 0 where
   pub rules : All (Rule layout p) ds
   pub once : declared-once ds ≡ true
-  pub permitted : every (permits (p .declarations)) b ≡ true
+  pub permitted : every-record (permits (p .declarations)) b ≡ true
 
 judged-rest : {layout : Layout} {p : Pass} {d : Declaration} {ds : List Declaration} {b : Block Action} → Judged layout p (d ∷ ds) b → Judged layout p ds b
 judged-rest {d = d} {ds} k = record { rules = k .rules .1; once = once-rest d ds (k .once); permitted = k .permitted }
@@ -197,7 +219,7 @@ judged-rest {d = d} {ds} k = record { rules = k .rules .1; once = once-rest d ds
 -- the record at hand
 pub permitted-now : {layout : Layout} {p : Pass} {ds : List Declaration} {r : ℕ} {b : Block Action} (x : Action) → Judged layout p ds (act r x b) →
     permits (p .declarations) x ≡ true
-permitted-now {p = p} {b = b} x k = and-out (permits (p .declarations) x) (every (permits (p .declarations)) b) (k .permitted) .0
+permitted-now {p = p} {b = b} x k = and-out (permits (p .declarations) x) (every-record (permits (p .declarations)) b) (k .permitted) .0
 
 module _ (plan : DeclaredPlan) (cs : List Bool) (ok : Accepts plan) where
   pub judged : {k : Stage} {ch : List Bool} {n : Progress} → Stages plan cs k ch n → Judged (plan .layout) (pass-at k) (ahead k) (body-left k)
@@ -213,7 +235,7 @@ module _ (plan : DeclaredPlan) (cs : List Bool) (ok : Accepts plan) where
   judged (marks-then h) = judged-rest (judged h)
   judged (acts {p = p} {x = x} {b} h) =
       let f = permits (p .declarations) in
-      record { rules = tt; once = refl; permitted = and-out (f x) (every f b) (judged h .permitted) .1 }
+      record { rules = tt; once = refl; permitted = and-out (f x) (every-record f b) (judged h .permitted) .1 }
   judged (branches {p = p} {r} {x} {y} {b} {c = c} h) =
       record { rules = tt; once = refl; permitted = every-branch (permits (p .declarations)) r c x y b (judged h .permitted) }
   judged (loops {p = p} {r} {x} {b} {c = c} h) =
@@ -222,15 +244,15 @@ module _ (plan : DeclaredPlan) (cs : List Bool) (ok : Accepts plan) where
   judged (loops0 h) = judged h
 
   -- the needs and marks executed are those of the declarations made; the need of an RW comes then the RW counts as made
-  abbrev Asked : Stage → Progress → Type 0
-  Asked (in-body p b t) n = asked (n .history) ≡ executed-of (n .made)
-  Asked (declaring p ds t) n = asked (n .history) ≡ executed-of (n .made)
-  Asked (marking p s a m ds t) n = asked (n .history) ≡ record { action = whole-of need s a; deed = copied-if m s } ∷ executed-of (n .made)
+  abbrev ExecutedAt : Stage → Progress → Type 0
+  ExecutedAt (in-body p b t) n = whole-events (n .history) ≡ executed-of (n .made)
+  ExecutedAt (declaring p ds t) n = whole-events (n .history) ≡ executed-of (n .made)
+  ExecutedAt (marking p s a m ds t) n = whole-events (n .history) ≡ record { number = 0; action = whole-of need s a; deed = copied-if m s } ∷ executed-of (n .made)
 
-  permitted-asks : (ds : List Declaration) (x : Action) (σ : State) (l : List Event) → permits ds x ≡ true → asked (event x σ ∷ l) ≡ asked l
-  permitted-asks ds x σ l e = go (x .verb) e
+  pub permitted-whole : (ds : List Declaration) (x : Action) (σ : State) (l : List Event) → permits ds x ≡ true → whole-events (event 0 x σ ∷ l) ≡ whole-events l
+  permitted-whole ds x σ l e = go (x .verb) e
     where
-      go : (v : Verb) → permits ds (as-verb v x) ≡ true → asked (event (as-verb v x) σ ∷ l) ≡ asked l
+      go : (v : Verb) → permits ds (as-verb v x) ≡ true → whole-events (event 0 (as-verb v x) σ ∷ l) ≡ whole-events l
       go read e = refl
       go write e = refl
       go copy e = refl
@@ -245,16 +267,16 @@ module _ (plan : DeclaredPlan) (cs : List Bool) (ok : Accepts plan) where
       go true e = ap (λ (r : Deed × Flags). r .0) (flag-set s (σ .flags a) e)
       go false e = ap (λ (r : Deed × Flags). r .0) (flag-clear s (σ .flags a) e)
 
-  pub asks-all : {k : Stage} {ch : List Bool} {n : Progress} → Stages plan cs k ch n → Asked k n
-  asks-all begins = refl
-  asks-all (calls h) = asks-all h
-  asks-all (enters h) = asks-all h
-  asks-all (needs {s = s} {a} {n = n} h) = λ i. record { action = whole-of need s a; deed = need-deed s a (n .state) i } ∷ asks-all h i
-  asks-all (marks {s = s} {a} {n = n} h) = ap (_∷_ (event (whole-of mark s a) (n .state))) (asks-all h)
-  asks-all (needs-first {s = s} {a} {n = n} h) = λ i. record { action = whole-of need s a; deed = need-deed s a (n .state) i } ∷ asks-all h i
-  asks-all (marks-then {s = s} {a} {n = n} h) = ap (_∷_ (event (whole-of mark s a) (n .state))) (asks-all h)
-  asks-all (acts {p = p} {x = x} {n = n} h) = permitted-asks (p .declarations) x (n .state) (n .history) (permitted-now x (judged h)) ∙ asks-all h
-  asks-all (branches h) = asks-all h
-  asks-all (loops h) = asks-all h
-  asks-all (branches0 h) = asks-all h
-  asks-all (loops0 h) = asks-all h
+  pub executed-so-far : {k : Stage} {ch : List Bool} {n : Progress} → Stages plan cs k ch n → ExecutedAt k n
+  executed-so-far begins = refl
+  executed-so-far (calls h) = executed-so-far h
+  executed-so-far (enters h) = executed-so-far h
+  executed-so-far (needs {s = s} {a} {n = n} h) = λ i. record { number = 0; action = whole-of need s a; deed = need-deed s a (n .state) i } ∷ executed-so-far h i
+  executed-so-far (marks {s = s} {a} {n = n} h) = ap (_∷_ (event 0 (whole-of mark s a) (n .state))) (executed-so-far h)
+  executed-so-far (needs-first {s = s} {a} {n = n} h) = λ i. record { number = 0; action = whole-of need s a; deed = need-deed s a (n .state) i } ∷ executed-so-far h i
+  executed-so-far (marks-then {s = s} {a} {n = n} h) = ap (_∷_ (event 0 (whole-of mark s a) (n .state))) (executed-so-far h)
+  executed-so-far (acts {p = p} {x = x} {n = n} h) = permitted-whole (p .declarations) x (n .state) (n .history) (permitted-now x (judged h)) ∙ executed-so-far h
+  executed-so-far (branches h) = executed-so-far h
+  executed-so-far (loops h) = executed-so-far h
+  executed-so-far (branches0 h) = executed-so-far h
+  executed-so-far (loops0 h) = executed-so-far h

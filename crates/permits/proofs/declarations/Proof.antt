@@ -4,10 +4,10 @@ use mathlib.Core.Path.{_≡_, refl}
 use Prim.Native.Nat.{_-_, _≤_, _<_}
 use native.Mathlib.Omega.{arith}
 use Rattle.model.specs.declared.Verdict.the-variants.{Accepted}
-use Rattle.model.specs.Rows.{first, each}
+use Rattle.model.specs.Rows.{answer-of, all-rows}
 use Rattle.model.proofs.Rows.{refused, each-none, each-more, each-stop}
 use Rattle.passes.proofs.Records.{arrays-low, declared-low, records-low, records-inside, declaration-array}
-use Rattle.permits.specs.Permits.{record-rows}
+use Rattle.permits.specs.Permits.{permit-rows}
 use Rattle.permits.specs.Inner.Uses.{kinds-of, sides-of}
 use Rattle.permits.proofs.ByArray.{none-declared, twice, once, stored}
 use borrow.Author.Needs.{needs}
@@ -17,7 +17,7 @@ use Rattle.permits.proofs.declarations.Tie as tie
 abbrev Inv-loop : tie.InvT-loop
 Inv-loop plan e kinds₀ sides₀ i₀ kinds sides i =
     (i ≤ e .declarations)
-    × (Accepted ≡ first (each i (record-rows plan (e .body))))
+    × (Accepted ≡ answer-of (all-rows i (permit-rows plan (e .body))))
     × (kinds ≡ kinds-of plan (e .from) i)
     × (sides ≡ sides-of plan (e .from) i)
 

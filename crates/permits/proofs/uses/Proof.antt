@@ -3,24 +3,24 @@ use mathlib.Core.Path.{_≡_, sym, ap, _∙_}
 use Prim.Native.Nat.{_-_, _≤_, _<_}
 use native.Mathlib.Omega.{arith}
 use Rattle.model.specs.declared.Verdict.the-variants.{Accepted}
-use Rattle.model.specs.Rows.{first, each}
+use Rattle.model.specs.Rows.{answer-of, all-rows}
 use Rattle.model.proofs.Rows.{turned, each-more, each-stop}
 use Rattle.passes.proofs.Records.{declared-low, records-low, records-inside}
-use Rattle.permits.specs.Permits.{record-rows}
+use Rattle.permits.specs.Permits.{permit-rows}
 use Rattle.permits.proofs.ByArray.{array-low, uses-are}
 use borrow.Author.Needs.{needs}
 use Rattle.permits.proofs.uses.Statement.{statement}
 use Rattle.permits.proofs.uses.Tie as tie
 
 abbrev Inv-loop : tie.InvT-loop
-Inv-loop plan e kinds sides i₀ i = (e .declarations ≤ i) × (i ≤ e .records) × (Accepted ≡ first (each i (record-rows plan (e .body))))
+Inv-loop plan e kinds sides i₀ i = (e .declarations ≤ i) × (i ≤ e .records) × (Accepted ≡ answer-of (all-rows i (permit-rows plan (e .body))))
 
 abbrev μ-loop : tie.MeasureT-loop
 μ-loop plan e kinds sides i₀ i = e .records - i
 
 -- what record i answers
-rows : (c : tie.After-use-tests Inv-loop μ-loop) → c .use-tests .result ≡ first (record-rows (c .before .before .before .before .before .before .before .before .before .before .args .plan .now) (c .before .before .before .before .before .before .before .before .before .before .args .e .body) (c .before .before .before .before .before .before .before .before .loop .i))
-rows c = c .use-tests .ensures ∙ ap first (uses-are _ _ (c .before .before .before .before .before .before .before .before .before .before .pre .0) _ (c .before .before .before .before .before .before .before .before .loop .inv .0) (c .before .before .before .before .before .before .if1 .taken) _ (c .before .before .before .before .record-at .ensures) _ _ (c .before .before .before .before .before .before .before .before .before .before .pre .1))
+rows : (c : tie.After-use-tests Inv-loop μ-loop) → c .use-tests .result ≡ answer-of (permit-rows (c .before .before .before .before .before .before .before .before .before .before .args .plan .now) (c .before .before .before .before .before .before .before .before .before .before .args .e .body) (c .before .before .before .before .before .before .before .before .loop .i))
+rows c = c .use-tests .ensures ∙ ap answer-of (uses-are _ _ (c .before .before .before .before .before .before .before .before .before .before .pre .0) _ (c .before .before .before .before .before .before .before .before .loop .inv .0) (c .before .before .before .before .before .before .if1 .taken) _ (c .before .before .before .before .record-at .ensures) _ _ (c .before .before .before .before .before .before .before .before .before .before .pre .1))
 
 below : (c : tie.After-record-at Inv-loop μ-loop) → c .record-at .result .array < 32
 below c = array-low _ _ (c .before .before .before .before .before .before .pre .0) _ (c .before .before .before .before .loop .inv .0) (c .before .before .if1 .taken) _ (c .record-at .ensures) _ _ (c .before .before .before .before .before .before .pre .1)

@@ -6,10 +6,10 @@ use mathlib.Core.List.{List, [], _∷_}
 use lib.Dec.{eqb}
 use Rattle.model.specs.declared.Verdict.the-variants.{Accepted}
 use Rattle.reading.specs.declared.Fields.{Fields}
-use Rattle.model.specs.Rows.{Row, row, first, each}
+use Rattle.model.specs.Rows.{Row, row, answer-of, all-rows}
 use Rattle.reading.specs.Bytes.{table, fields-at, between}
 use Rattle.passes.specs.declared.Extent.{Extent}
-use Rattle.permits.specs.Permits.{record-rows}
+use Rattle.permits.specs.Permits.{permit-rows}
 
 -- a field of the last declaration of array a among the n declarations from record r on; 0 where there is none
 unfoldable pub declared-field : (Fields → ℕ) → List ℕ → ℕ → ℕ → ℕ → ℕ
@@ -26,7 +26,7 @@ sides-of f r n = table (declared-field (λ x. x .side) f r n) 32
 
 -- no array of the pass is declared twice, and these are the sides of its declarations by array
 pub record Sides (f : List ℕ) (e : Extent) (sides : List ℕ) : Type 0 where
-  pub once : Accepted ≡ first (each (e .declarations) (record-rows f (e .body)))
+  pub once : Accepted ≡ answer-of (all-rows (e .declarations) (permit-rows f (e .body)))
   pub sides-are : sides ≡ sides-of f (e .from) (e .declarations)
 
 -- and these are their kinds

@@ -3,9 +3,9 @@ use mathlib.Core.Path.{_≡_, ap, sym, _∙_}
 use Prim.Native.Nat.{_-_, _≤_, _<_}
 use native.Mathlib.Omega.{arith}
 use Rattle.model.specs.declared.Verdict.the-variants.{Accepted}
-use Rattle.model.specs.Rows.{first, each}
+use Rattle.model.specs.Rows.{answer-of, all-rows}
 use Rattle.reading.specs.Bytes.{body-count}
-use Rattle.records.specs.Records.{records-rows}
+use Rattle.records.specs.Records.{body-rows}
 use Rattle.model.proofs.Rows.{turned, each-none, each-more, each-stop}
 use Rattle.contents.proofs.Bounds.{bounds-of}
 use Rattle.contents.proofs.Found.{BodyAt, body-at}
@@ -15,7 +15,7 @@ use Rattle.records.proofs.all_records.Statement.{statement}
 use Rattle.records.proofs.all_records.Tie as tie
 
 abbrev Inv-loop : tie.InvT-loop
-Inv-loop plan offset bodies starts declarations b₀ b = (b ≤ bodies) × (Accepted ≡ first (each b (records-rows plan)))
+Inv-loop plan offset bodies starts declarations b₀ b = (b ≤ bodies) × (Accepted ≡ answer-of (all-rows b (body-rows plan)))
 
 abbrev μ-loop : tie.MeasureT-loop
 μ-loop plan offset bodies starts declarations b₀ b = bodies - b

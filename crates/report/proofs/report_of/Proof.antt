@@ -21,7 +21,7 @@ returns c =
     let u = c .before .before .before .before .before .before .before .before .before .before .args in
     record {
       runs = c .before .before .before .before .run .ensures;
-      roomy = roomy (u .plan .now) (u .choices .now) (lent (u .host .now) (u .card .now) (u .latest .now) nothing) (omega arith) (omega arith) (omega arith);
+      roomy = roomy (u .plan .now) (lent (u .host .now) (u .card .now) (u .latest .now) nothing) (omega arith) (omega arith) (omega arith);
       values = c .values-of .ensures;
       ending = c .before .ending-of .ensures;
     }

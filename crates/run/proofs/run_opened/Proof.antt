@@ -2,7 +2,7 @@
 use native.Mathlib.Omega.{arith}
 use mathlib.Core.Path.{_≡_, sym, _∙_}
 use Rattle.model.specs.declared.Verdict.the-variants.{Accepted}
-use Rattle.model.specs.Rows.{first}
+use Rattle.model.specs.Rows.{answer-of}
 use Rattle.model.proofs.Rows.{turned}
 use Rattle.run.specs.Running.{lent, run-rows}
 use Rattle.run.proofs.Begins.{begins}
@@ -15,7 +15,7 @@ ready-requires : tie.Need-ready-requires
 ready-requires c κs = search needs
 
 -- no row holds
-accepted : (c : tie.After-enum-told) → Accepted ≡ first (run-rows (c .before .before .before .before .before .before .before .before .before .before .before .args .plan .now) (c .before .before .before .before .before .before .before .before .before .before .before .args .choices .now) (lent (c .before .before .before .before .before .before .before .before .before .before .before .args .host .now) (c .before .before .before .before .before .before .before .before .before .before .before .args .card .now) (c .before .before .before .before .before .before .before .before .before .before .before .args .latest .now) (c .before .before .before .before .before .before .before .before .before .before .before .args .tally)))
+accepted : (c : tie.After-enum-told) → Accepted ≡ answer-of (run-rows (c .before .before .before .before .before .before .before .before .before .before .before .args .plan .now) (c .before .before .before .before .before .before .before .before .before .before .before .args .choices .now) (lent (c .before .before .before .before .before .before .before .before .before .before .before .args .host .now) (c .before .before .before .before .before .before .before .before .before .before .before .args .card .now) (c .before .before .before .before .before .before .before .before .before .before .before .args .latest .now) (c .before .before .before .before .before .before .before .before .before .before .before .args .tally)))
 accepted c = sym (c .enum-told .given .1) ∙ c .before .before .ready .ensures _
 
 enum-told : tie.Need-enum-told

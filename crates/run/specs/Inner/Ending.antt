@@ -3,7 +3,8 @@ use Prim.Native.Nat.{ℕ}
 use mathlib.Core.Bool.{Bool}
 use Rattle.model.specs.declared.Verdict.{Verdict}
 use Rattle.model.specs.declared.Verdict.the-variants.{Accepted, Stopped, Refused}
-use Rattle.memories.specs.Flags.{mask, set-flags}
+use Rattle.model.specs.Lists.{how-many}
+use Rattle.memories.specs.Flags.{mask}
 use Rattle.model.specs.declared.End.{End}
 use Rattle.run.specs.Running.{no-end}
 
@@ -14,8 +15,8 @@ end-with n on-host on-card used Accepted = record {
   used = used;
   «host_flags» = mask n on-host;
   «card_flags» = mask n on-card;
-  «on_host» = set-flags n on-host;
-  «on_card» = set-flags n on-card;
+  «on_host» = how-many on-host n;
+  «on_card» = how-many on-card n;
 }
 end-with n on-host on-card used (Stopped r c) = no-end (Stopped r c)
 end-with n on-host on-card used (Refused number place) = no-end (Refused number place)

@@ -1,5 +1,5 @@
 -- `sizes::pass_size` counts the records that a call of a pass becomes.
-use mathlib.Core.Path.{_≡_, sym, ap, _∙_}
+use mathlib.Core.Path.{sym, ap, _∙_}
 use Prim.Native.Nat.{ℕ, _+_, _-_}
 use native.Mathlib.Omega.{arith}
 use Rattle.model.specs.Blocks.{size}

@@ -8,7 +8,7 @@ use lib.ListN.{getD}
 use Rattle.model.specs.declared.Verdict.the-variants.{Accepted}
 use Rattle.model.specs.Records.{Action}
 use Rattle.model.specs.Blocks.{Block, size}
-use Rattle.model.specs.Expanding.{declared}
+use Rattle.model.specs.Inner.Declared.{declared}
 use Rattle.reading.specs.Bytes.{kind-of, body-count, records-in, fields-at}
 use Rattle.format.specs.Opening.{opening}
 use Rattle.format.specs.Plans.{pass-at}

@@ -2,7 +2,7 @@
 use Prim.Native.Nat.{ℕ, _≤_, _<_}
 use mathlib.Core.Path.{_≡_}
 use mathlib.Core.Logic.{_⊎_, _↔_}
-use Rattle.model.proofs.Status.{Status}
+use Rattle.model.specs.Inner.Statuses.{Status}
 use Rattle.statuses.specs.declared.acts.Found.{Found}
 use Rattle.statuses.specs.Inner.Sets.{In}
 

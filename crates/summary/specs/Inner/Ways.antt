@@ -9,8 +9,8 @@ use lib.ListN.{length, getD}
 use Rattle.model.specs.Sides.{span-of}
 use Rattle.model.specs.Records.{Action}
 use Rattle.model.specs.Blocks.{Block, done, branch, loop}
-use Rattle.model.proofs.Status.{Status}
-use Rattle.model.proofs.Through.{Goes, Stops}
+use Rattle.model.specs.Inner.Statuses.{Status}
+use Rattle.model.specs.Inner.Stops.{Goes, Stops}
 use Rattle.reading.specs.Bytes.{layout-of, record-count, fields-at, first-arm}
 use Rattle.format.specs.Inner.Walks.{Plain, Walkable, block-between}
 use Rattle.statuses.specs.declared.acts.Found.{Found}

@@ -4,8 +4,8 @@ use mathlib.Core.Path.{_≡_}
 use mathlib.Core.List.{List}
 use Rattle.model.specs.Records.{Action}
 use Rattle.model.specs.Blocks.{Block}
-use Rattle.model.proofs.Status.{Status}
-use Rattle.model.proofs.Through.{Goes, Stops}
+use Rattle.model.specs.Inner.Statuses.{Status}
+use Rattle.model.specs.Inner.Stops.{Goes, Stops}
 use Rattle.reading.specs.Bytes.{layout-of}
 use Rattle.statuses.specs.declared.acts.Found.{Found}
 use Rattle.statuses.specs.Inner.Sets.{In}

@@ -1,7 +1,6 @@
 -- `writer::put_contents` writes header and contents of the expansion's file.
 use Prim.Native.Nat.{_+_, _*_, _≤_}
 use native.Mathlib.Omega.{arith}
-use mathlib.Core.Path.{sym}
 use Rattle.reading.specs.Bytes.{array-count}
 use lib.ListN.{length}
 use Rattle.writer.proofs.Files.{lengths-over, contents-over}

@@ -2,7 +2,7 @@
 use mathlib.Core.Path.{_≡_, sym, ap, _∙_}
 use Prim.Native.Nat.{_+_, _*_, _≤_}
 use native.Mathlib.Omega.{arith}
-use lib.ListN.{length, getD}
+use lib.ListN.{length}
 use Rattle.reading.specs.Bytes.{array-count, records-in}
 use Rattle.sizes.specs.Inner.Sizes.{place}
 use Rattle.sizes.proofs.Body0.{end-read, body0-few}

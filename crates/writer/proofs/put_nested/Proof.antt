@@ -1,5 +1,5 @@
 -- `writer::put_nested` writes a branch or a loop with its arm counts grown to fit.
-use mathlib.Core.Path.{_≡_, _∙_}
+use mathlib.Core.Path.{_∙_}
 use native.Mathlib.Omega.{arith}
 use Rattle.writer.specs.Inner.Pieces.{nested}
 use borrow.Author.Needs.{needs}

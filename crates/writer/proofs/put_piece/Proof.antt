@@ -1,5 +1,5 @@
 -- `writer::put_piece` writes what stands for a record of body 0.
-use mathlib.Core.Path.{_≡_, ap, sym, _∙_}
+use mathlib.Core.Path.{ap, _∙_}
 use native.Mathlib.Omega.{arith}
 use Rattle.passes.proofs.Records.{readable}
 use Rattle.sizes.proofs.Body0.{body0-inside}

@@ -6,7 +6,8 @@ use lib.Dec.{eqb}
 use lib.ListN.{getD, take, drop}
 use Rattle.reading.specs.declared.Fields.{Fields}
 use Rattle.reading.specs.Bytes.{array-count, fields-at, first-arm, second-arm}
-use Rattle.files.specs.Files.{u16-bytes, fields, block-fields}
+use Rattle.files.specs.Files.{u16-bytes, fields}
+use Rattle.files.specs.Inner.Short.{block-fields}
 use Rattle.sizes.specs.Inner.Sizes.{called, place}
 
 -- the arms of record r of body 0, with the fields x: where they begin in the expansion rises, and is not past 1,024

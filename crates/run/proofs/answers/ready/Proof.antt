@@ -6,7 +6,7 @@ use borrow.Author.Tests.{le-ltb}
 use Rattle.model.specs.declared.Verdict.the-variants.{Accepted}
 use Rattle.reading.specs.Bytes.{kind-of}
 use Rattle.format.specs.Opening.{opening}
-use Rattle.contents.specs.Found.{found}
+use Rattle.contents.specs.Inner.Findings.{found}
 use Rattle.model.proofs.Rows.{turned}
 use Rattle.format.proofs.Walking.{verdict-is, found-is}
 use Rattle.run.proofs.Begins.{row-unopened, row-declared, row-short, row-many, row-none}
