@@ -111,7 +111,8 @@ fn answer_with(
     requires { ⌜ Plain (now plan) bodies × (records ≡ record-count (now plan)) × (arrays ≡ array-count (now plan)) × Starts (now plan) (now starts) × Room (now plan) 0 (now rows) × Spare (now plan) (now ahead) ⌝ }
     ensures { λ r. ⌜ Answers (plan-of (now (plan .entry))) r ⌝ }
 {
-    let m = marks(plan, bodies, records, starts);
+    let mut m = [0u8; PLACES];
+    marks(plan, bodies, records, starts, &mut m);
     let mut v = Verdict::Accepted;
     let mut first = 0;
     for a in 0..arrays {

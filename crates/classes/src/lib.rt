@@ -1,5 +1,6 @@
 // Which cells share a walk, and the answer with the cell of one walk more.
 ghost use mathlib.Core.Path.{_≡_};
+ghost use lib.ListN.{length};
 ghost use Rattle.model.specs.Inner.Lowest.{with-cell};
 ghost use Rattle.reading.specs.Bytes.{record-count};
 ghost use Rattle.format.specs.Inner.Walks.{Plain, Starts};
@@ -19,11 +20,16 @@ use statuses::acts::NONE;
 pub const PLACES: usize = 4097;
 
 // Marks each place where the cells of a record begin or end.
-pub fn marks(plan: &[u8], bodies: usize, records: usize, starts: &[u16; STARTS]) -> [u8; PLACES]
-    requires { ⌜ Plain (now plan) bodies × (records ≡ record-count (now plan)) × Starts (now plan) (now starts) ⌝ }
-    ensures { λ m. ⌜ Marked (now (plan .entry)) (record-count (now (plan .entry))) m ⌝ }
+pub fn marks(
+    plan: &[u8],
+    bodies: usize,
+    records: usize,
+    starts: &[u16; STARTS],
+    m: &mut [u8; PLACES],
+)
+    requires { ⌜ Plain (now plan) bodies × (records ≡ record-count (now plan)) × Starts (now plan) (now starts) × (length (now m) ≡ 4097) ⌝ }
+    ensures { λ _. ⌜ Marked (now (plan .entry)) (record-count (now (plan .entry))) (now (m .exit)) ⌝ }
 {
-    let mut m = [0u8; PLACES];
     for r in 0..records {
         let x = record_at(plan, bodies, r);
         if x.kind <= COPY {
@@ -34,7 +40,6 @@ pub fn marks(plan: &[u8], bodies: usize, records: usize, starts: &[u16; STARTS])
             m[to] = 1;
         }
     }
-    m
 }
 
 // The record that an answer names, NONE if it accepts. A refusal stays as it is: no record is below 0.

@@ -31,17 +31,17 @@ abbrev μ-loop : tie.MeasureT-loop
 
 -- the plan has few arrays
 few : (c : tie.In-loop Inv-loop μ-loop) → c .before .loop .a + 1 ≤ 32
-few c = let p = c .before .before .before .before .before .before .pre in omega (arith, p .2, opened-facts _ (p .0 .opens) .bounds .header .arrays, c .loop-test .taken)
+few c = let p = c .before .before .before .before .before .before .before .pre in omega (arith, p .2, opened-facts _ (p .0 .opens) .bounds .header .arrays, c .loop-test .taken)
 
 -- and one after those that were looked at
-more : (c : tie.In-loop Inv-loop μ-loop) → c .before .loop .a + 1 ≤ array-count (c .before .before .before .before .before .before .args .plan .now)
-more c = omega (arith, c .before .before .before .before .before .before .pre .2, c .loop-test .taken)
+more : (c : tie.In-loop Inv-loop μ-loop) → c .before .loop .a + 1 ≤ array-count (c .before .before .before .before .before .before .before .args .plan .now)
+more c = omega (arith, c .before .before .before .before .before .before .before .pre .2, c .loop-test .taken)
 
 marks-requires : tie.Need-marks-requires Inv-loop μ-loop
-marks-requires c κs = let p = c .before .before .before .pre in (p .0, p .1, p .3)
+marks-requires c κs = let p = c .before .before .before .before .pre in (p .0, p .1, p .3, refl)
 
 loop-holds : tie.Need-loop-holds Inv-loop μ-loop
-loop-holds c = let p = c .before .before .before .before .pre in (omega arith, sym (first-zero _), fits-none _, p .4, refl, p .5, refl)
+loop-holds c = let p = c .before .before .before .before .before .pre in (omega arith, sym (first-zero _), fits-none _, p .4, refl, p .5, refl)
 
 add-next : tie.Need-add-next Inv-loop μ-loop
 add-next c = omega (arith, few c)
@@ -53,14 +53,14 @@ element-copy-out-next : tie.Need-element-copy-out-next Inv-loop μ-loop
 element-copy-out-next c = omega (arith, few c)
 
 cast-next : tie.Need-cast-next Inv-loop μ-loop
-cast-next c = let p = c .before .before .before .before .before .before .before .pre in omega (arith, start-low (p .0) (p .3) (c .before .before .loop .a + 1) (more (c .before)))
+cast-next c = let p = c .before .before .before .before .before .before .before .before .pre in omega (arith, start-low (p .0) (p .3) (c .before .before .loop .a + 1) (more (c .before)))
 
-cast-t19 : tie.Need-cast-t19 Inv-loop μ-loop
-cast-t19 c = omega (arith, few (c .before .before .before .before))
+cast-t20 : tie.Need-cast-t20 Inv-loop μ-loop
+cast-t20 c = omega (arith, few (c .before .before .before .before))
 
 over-array-requires : tie.Need-over-array-requires Inv-loop μ-loop
 over-array-requires c κs =
-    let p = c .before .before .before .before .before .before .before .before .before .before .pre in
+    let p = c .before .before .before .before .before .before .before .before .before .before .before .pre in
     let l = c .before .before .before .before .before .loop in
     let n = more (c .before .before .before .before) in
     (p .0, p .1, c .before .before .before .before .before .before .marks .ensures, record { one = omega (arith, n); begins = l .inv .1; ends = p .3 .first (l .a + 1) n }, l .inv .2, l .inv .3, l .inv .5)
@@ -73,7 +73,7 @@ loop-less c = omega (arith, c .before .before .before .before .before .before .b
 
 loop-again : tie.Need-loop-again Inv-loop μ-loop
 loop-again c =
-    let p = c .before .before .before .before .before .before .before .before .before .before .before .before .before .before .before .pre in
+    let p = c .before .before .before .before .before .before .before .before .before .before .before .before .before .before .before .before .pre in
     let l = c .before .before .before .before .before .before .before .before .before .before .loop in
     let o = c .before .before .before .before .over-array in (
       omega (arith, c .before .before .before .before .before .before .before .before .before .loop-test .taken),
@@ -94,10 +94,10 @@ same-length-2 c = c .before .loop .inv .6
 returns : tie.Need-returns Inv-loop μ-loop
 unfolding plan-of
 returns c =
-    let p = c .before .before .before .before .before .before .pre in
+    let p = c .before .before .before .before .before .before .before .pre in
     let l = c .before .loop in
-    let n : l .a ≡ array-count (c .before .before .before .before .before .before .args .plan .now) = omega (arith, p .2, l .inv .0, c .loop-test .left) in
-    exact (plan-of (c .before .before .before .before .before .before .args .plan .now)) (l .v) .0 (rw (all-cells (c .before .before .before .before .before .before .args .plan .now), ← n, ← l .inv .1) (l .inv .2))
+    let n : l .a ≡ array-count (c .before .before .before .before .before .before .before .args .plan .now) = omega (arith, p .2, l .inv .0, c .loop-test .left) in
+    exact (plan-of (c .before .before .before .before .before .before .before .args .plan .now)) (l .v) .0 (rw (all-cells (c .before .before .before .before .before .before .before .args .plan .now), ← n, ← l .inv .1) (l .inv .2))
 
 pub answer-with-spec : {M : Type 1} → statement M
 answer-with-spec =
@@ -111,7 +111,7 @@ answer-with-spec =
     mul-next
     element-copy-out-next
     cast-next
-    cast-t19
+    cast-t20
     over-array-requires
     add-a
     loop-less

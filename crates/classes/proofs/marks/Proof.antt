@@ -1,6 +1,6 @@
 -- `marks` marks where the cells of a record begin and end. The invariant: a place without a mark is clear of the records before r.
 use Prim.Native.Nat.{_+_, _-_, _≤_}
-use mathlib.Core.Path.{_≡_, refl, ap, _∙_}
+use mathlib.Core.Path.{_≡_, ap, _∙_}
 use mathlib.Core.Logic.{⊎-elim}
 use native.Mathlib.Omega.{arith}
 use lib.ListN.{getD}
@@ -42,7 +42,7 @@ to c =
     (rw k at (c .cells-of .ensures .1)) ∙ ap (λ z. z + c .before .before .before .record-at .result .q) (first (c .before))
 
 loop-holds : tie.Need-loop-holds Inv-loop μ-loop
-loop-holds c = (search needs, marked-none _ _ refl)
+loop-holds c = (search needs, marked-none _ _ (c .before .pre .3))
 
 record-at-requires : tie.Need-record-at-requires Inv-loop μ-loop
 record-at-requires c κs = (c .before .before .before .pre .0 .place, record-inside _ _ (c .before .before .before .pre .0) (c .before .loop .r) (omega (arith, c .before .before .before .pre .1)))
@@ -50,11 +50,11 @@ record-at-requires c κs = (c .before .before .before .pre .0 .place, record-ins
 cells-of-requires : tie.Need-cells-of-requires Inv-loop μ-loop
 cells-of-requires c κs = omega (arith, edge c .array, edge c .few)
 
-array-write-m : tie.Need-array-write-m Inv-loop μ-loop
-array-write-m c = let n = edge (c .before) in omega (arith, n .order, n .inside, from c)
+element-write-m : tie.Need-element-write-m Inv-loop μ-loop
+element-write-m c = let n = edge (c .before) in omega (arith, n .order, n .inside, from c)
 
-array-write-m-2 : tie.Need-array-write-m-2 Inv-loop μ-loop
-array-write-m-2 c = let n = edge (c .before) in omega (arith, n .inside, to c)
+element-write-m-2 : tie.Need-element-write-m-2 Inv-loop μ-loop
+element-write-m-2 c = let n = edge (c .before) in omega (arith, n .inside, to c)
 
 add-r : tie.Need-add-r Inv-loop μ-loop
 add-r c = search needs
@@ -88,8 +88,8 @@ marks-spec =
     loop-holds
     record-at-requires
     cells-of-requires
-    array-write-m
-    array-write-m-2
+    element-write-m
+    element-write-m-2
     add-r
     loop-less
     loop-again
