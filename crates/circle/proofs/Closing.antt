@@ -81,7 +81,7 @@ module _ (f : List ℕ) (judges : judged f ≡ Accepted) (small : size (expansio
           ending = x;
           ends = h;
           holds = m;
-          current = λ c l. let w = d .always-current k (h .run) c l in one-current (w .0) c l (w .1);
+          side-current = λ c l. let w = d .always-current k (h .run) c l in one-current (w .0) c l (w .1);
         }
 
   neither : {n p : ℕ} → answer .verdict ≡ Refused n p → (n ≡ 22 → ⊥) → DoneOrSpent (answer .verdict) → ⊥

@@ -37,7 +37,7 @@ pub record Kept (f choices : List ℕ) (before after : Lent) : Type 0 where
   pub ends : Ends (expansion-of f) (choices-of choices) config ending
   pub holds : after ≡ holding (layout-of f) config before
   -- each cell of the lent memories is current on some side
-  pub current : (c : ℕ) → c < cell-count (layout-of f) →
+  pub side-current : (c : ℕ) → c < cell-count (layout-of f) →
       (getD (after .host) c 0 ≡ getD (after .latest) c 0) ⊎ (getD (after .card) c 0 ≡ getD (after .latest) c 0)
 
 -- what is claimed of a run of the expansion's file, whatever the choices and the lent memories

@@ -8,14 +8,14 @@ use lib.Dec.{eqb}
 use borrow.Author.Tests.{eqb-false, ne-eqb, lt-ltb, le-ltb}
 use Rattle.model.specs.declared.Verdict.{Verdict}
 use Rattle.model.specs.declared.Verdict.the-variants.{Accepted, Stopped, Refused}
-use Rattle.model.specs.Verdicts.{stop}
+use Rattle.model.specs.Verdicts.{stopped-at}
 use Rattle.model.proofs.Check.{with-cell}
 use Rattle.statuses.specs.Inner.Sets.{record-of}
 use Rattle.classes.specs.Inner.Named.{named-by}
 
 -- with cell c, which can stop at record k: lower than the record that the answer names, or not
 module _ (c k : ℕ) where
-  pub cell-lower : (v : Verdict) → named-by v ≤ 65535 → k < named-by v → stop k c ≡ with-cell v c (record-of k)
+  pub cell-lower : (v : Verdict) → named-by v ≤ 65535 → k < named-by v → stopped-at k c ≡ with-cell v c (record-of k)
   cell-lower Accepted l h = rw (ne-eqb k 65535 (λ e. omega arith))
   cell-lower (Stopped r d) l h = rw (ne-eqb k 65535 (λ e. omega arith), lt-ltb k (r .0) h)
   cell-lower (Refused number place) l h = absurd (omega arith)

@@ -14,7 +14,7 @@ use Rattle.model.specs.declared.Verdict.the-variants.{Accepted, Stopped,
 use Rattle.model.specs.Sides.{cell-count}
 use Rattle.model.specs.Blocks.{Plan}
 use Rattle.model.specs.Check.{Answers}
-use Rattle.model.specs.Verdicts.{stop}
+use Rattle.model.specs.Verdicts.{stopped-at}
 use Rattle.model.proofs.Through.{StopsAt, sound, complete}
 use Rattle.model.specs.Claims.{ClaimAnswer}
 pub use Rattle.model.specs.Inner.Lowest.{AtMost, Least, with-cell, Fits}
@@ -42,7 +42,7 @@ fits-cell n P Accepted (some m) h k = (
 )
 fits-cell n P (Stopped r c) (some m) h k = go (ltb m (r .0)) refl
   where
-    go : (b : Bool) → ltb m (r .0) ≡ b → Fits (suc n) P (cond b (stop m n) (Stopped r c))
+    go : (b : Bool) → ltb m (r .0) ≡ b → Fits (suc n) P (cond b (stopped-at m n) (Stopped r c))
     go true e = let l = ltb-true m (r .0) e in (
       (omega arith, k .named m refl),
       λ r′. below-suc n (λ c′ l′ p. let q = h .1 r′ c′ l′ p in omega arith) (k .least r′),
@@ -91,7 +91,7 @@ module _ (plan : Plan) where
   unique (Stopped r c) (Stopped r′ c′) h k =
       let q : r .0 ≡ r′ .0 = le-antisymm (h .1 (r′ .0) (c′ .0) (k .0)) (k .1 (r .0) (c .0) (h .0)) in
       let m : c .0 ≡ c′ .0 = le-antisymm (h .2 (c′ .0) (rw q (k .0))) (k .2 (c .0) (rw q at (h .0))) in
-      λ i. stop (q i) (m i)
+      λ i. stopped-at (q i) (m i)
   unique (Stopped r c) (Refused number place) h k = absurd k
   unique (Refused number place) w h k = absurd h
 

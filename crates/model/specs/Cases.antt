@@ -10,7 +10,7 @@ use Rattle.model.specs.Sides.{Side, host, card}
 use Rattle.model.specs.Records.{Verb, read, write, copy, need, mark, Action}
 use Rattle.model.specs.Blocks.{Block, done, branch, loop, numbered, _⨾_, Plan}
 use Rattle.model.specs.Runs.{Config, stopped, Ends}
-use Rattle.model.specs.Verdicts.{stop}
+use Rattle.model.specs.Verdicts.{stopped-at}
 use Rattle.model.specs.Check.{Answers}
 
 -- a row: a plan and the check's answer
@@ -32,7 +32,7 @@ v on-both s = record { verb = v; side = s; name = 0; p = 0; q = 2 }
 
 -- "10 loop (read host, read card, write card): a run proper that takes a turn stops first at 2, the answer is 1."
 abbrev pub case10 : Case
-case10 = case 1 (loop 0 (read on host ⨾ read on card ⨾ write on card ⨾ done) done) (stop 1 0)
+case10 = case 1 (loop 0 (read on host ⨾ read on card ⨾ write on card ⨾ done) done) (stopped-at 1 0)
 
 -- "These twelve stand in one proved table"
 abbrev pub twelve : List Case
@@ -42,25 +42,25 @@ twelve =
     -- "2 read host: accepted."
     ∷ case 1 (read on host ⨾ done) Accepted
     -- "3 read card: stop 0."
-    ∷ case 1 (read on card ⨾ done) (stop 0 0)
+    ∷ case 1 (read on card ⨾ done) (stopped-at 0 0)
     -- "4 copy to card, read card: accepted."
     ∷ case 1 (copy on card ⨾ read on card ⨾ done) Accepted
     -- "5 write card, read host: stop 1."
-    ∷ case 1 (write on card ⨾ read on host ⨾ done) (stop 1 0)
+    ∷ case 1 (write on card ⨾ read on host ⨾ done) (stopped-at 1 0)
     -- "6 copy to host: stop 0."
-    ∷ case 1 (copy on host ⨾ done) (stop 0 0)
+    ∷ case 1 (copy on host ⨾ done) (stopped-at 0 0)
     -- "7 branch (copy to card; nothing), read card: stop 2."
-    ∷ case 1 (branch 0 (copy on card ⨾ done) done (read on card ⨾ done)) (stop 2 0)
+    ∷ case 1 (branch 0 (copy on card ⨾ done) done (read on card ⨾ done)) (stopped-at 2 0)
     -- "8 loop (read host, write card): stop 1."
-    ∷ case 1 (loop 0 (read on host ⨾ write on card ⨾ done) done) (stop 1 0)
+    ∷ case 1 (loop 0 (read on host ⨾ write on card ⨾ done) done) (stopped-at 1 0)
     -- "9 two cells: write card cell 0, read host both: record 1, cell 0."
-    ∷ case 2 (write on card ⨾ read on-both host ⨾ done) (stop 1 0)
+    ∷ case 2 (write on card ⨾ read on-both host ⨾ done) (stopped-at 1 0)
     -- 10, as above
     ∷ case10
     -- "11 need card, write host, need card, read card: stop 3."
-    ∷ case 1 (need on card ⨾ write on host ⨾ need on card ⨾ read on card ⨾ done) (stop 3 0)
+    ∷ case 1 (need on card ⨾ write on host ⨾ need on card ⨾ read on card ⨾ done) (stopped-at 3 0)
     -- "12 mark card, need host: stop 1."
-    ∷ case 1 (mark on card ⨾ need on host ⨾ done) (stop 1 0)
+    ∷ case 1 (mark on card ⨾ need on host ⨾ done) (stopped-at 1 0)
     ∷ []
 
 -- of case 10: "a run proper that takes a turn stops first at 2"

@@ -18,5 +18,5 @@ values-of stop (Stopped r c) = record { number = stop; place = r .0; cell = c .0
 values-of stop (Refused number place) = record { number = number; place = place; cell = 0 }
 
 -- "stopped with record and cell", by their numbers
-abbrev pub stop : ℕ → ℕ → Verdict
-stop r c = Stopped (record { 0 = r }) (record { 0 = c })
+abbrev pub stopped-at : ℕ → ℕ → Verdict
+stopped-at r c = Stopped (record { 0 = r }) (record { 0 = c })

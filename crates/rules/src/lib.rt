@@ -47,15 +47,15 @@ pub fn fields_fit(plan: &[u8], x: Fields) -> bool
     let size = array_size(plan, arrays, x.array);
     let on_side = x.side < 2;
     let on_array = x.array < arrays;
-    let no_array = (x.side == 0) & (x.array == 0);
-    let last_zero = x.zero == 0;
+    let names_none = (x.side == 0) & (x.array == 0);
+    let fourth_zero = x.zero == 0;
     let kind = x.kind;
     match kind {
-        READ | WRITE | COPY => on_side & on_array & last_zero & (x.p < x.q) & (x.q <= size),
-        NEED | MARK | R | W | RW => on_side & on_array & last_zero & (x.p == 0) & (x.q == 0),
-        BRANCH => no_array & last_zero,
-        LOOP => no_array & last_zero & (x.q == 0),
-        CALL => no_array & last_zero & (x.q == 0) & (1 <= x.p) & (x.p < (bodies as u16)),
+        READ | WRITE | COPY => on_side & on_array & fourth_zero & (x.p < x.q) & (x.q <= size),
+        NEED | MARK | R | W | RW => on_side & on_array & fourth_zero & (x.p == 0) & (x.q == 0),
+        BRANCH => names_none & fourth_zero,
+        LOOP => names_none & fourth_zero & (x.q == 0),
+        CALL => names_none & fourth_zero & (x.q == 0) & (1 <= x.p) & (x.p < (bodies as u16)),
         0 | 9..=15 | 19..=255 => true,
     }
 }

@@ -11,7 +11,7 @@ use Rattle.model.specs.declared.Tally.{Tally}
 use Rattle.model.specs.Lists.{how-many}
 use Rattle.model.specs.Sides.{host, card, Layout, cell-count}
 use Rattle.model.specs.Runs.{Config, Ending, finished, stopped, out-of-choices, Ends, tally}
-use Rattle.model.specs.Verdicts.{accepted, stop}
+use Rattle.model.specs.Verdicts.{accepted, stopped-at}
 use Rattle.model.specs.Rows.{Row, row, answer-of}
 use Rattle.reading.specs.Bytes.{is-plain, table, layout-of}
 use Rattle.format.specs.Opening.{open-rows}
@@ -76,7 +76,7 @@ end-of layout cs k finished =
       «on_host» = how-many (λ a. k .state .flags a .flag host) n;
       «on_card» = how-many (λ a. k .state .flags a .flag card) n;
     }
-end-of layout cs k (stopped r c) = no-end (stop r c)
+end-of layout cs k (stopped r c) = no-end (stopped-at r c)
 end-of layout cs k (out-of-choices r) = no-end (Refused 22 r)
 
 -- the run ends at a configuration in one way (model, `Endings`): "At 21 and 22 memories and tally hold the state just before the named

@@ -6,7 +6,7 @@ use mathlib.Core.Option.{Option, none, some}
 use lib.Dec.{ltb}
 use Rattle.model.specs.declared.Verdict.{Verdict}
 use Rattle.model.specs.declared.Verdict.the-variants.{Accepted, Stopped, Refused}
-use Rattle.model.specs.Verdicts.{stop}
+use Rattle.model.specs.Verdicts.{stopped-at}
 
 -- m is at most r, if there is such an m
 abbrev pub AtMost : Option ℕ → ℕ → Type 0
@@ -21,8 +21,8 @@ pub record Least (o : Option ℕ) (P : ℕ → Type 0) : Type 0 where
 -- the answer for the cells below c, and then for cell c too, which can stop at the record given: the lower record, and of the same record the lower cell
 abbrev pub with-cell : Verdict → ℕ → Option ℕ → Verdict
 with-cell v c none = v
-with-cell Accepted c (some r) = stop r c
-with-cell (Stopped r′ c′) c (some r) = cond (ltb r (r′ .0)) (stop r c) (Stopped r′ c′)
+with-cell Accepted c (some r) = stopped-at r c
+with-cell (Stopped r′ c′) c (some r) = cond (ltb r (r′ .0)) (stopped-at r c) (Stopped r′ c′)
 with-cell (Refused number place) c (some r) = Refused number place
 
 -- an answer fits the cells below n, where `P r c` says that cell c can stop at record r

@@ -13,7 +13,7 @@ use Rattle.model.specs.Sides.{host}
 use Rattle.model.specs.Records.{Action}
 use Rattle.model.specs.Blocks.{Block}
 use Rattle.model.specs.Runs.{Config, Ending, Step, finished, stopped, out-of-choices, step, Run, tally, proper}
-use Rattle.model.specs.Verdicts.{stop}
+use Rattle.model.specs.Verdicts.{stopped-at}
 use Rattle.reading.specs.declared.Fields.{Fields}
 use Rattle.reading.specs.Bytes.{layout-of}
 use Rattle.format.specs.Plans.{plan-of}
@@ -112,7 +112,7 @@ next-record (Block.loop r x b) = r
 -- what the machine says of an ending
 abbrev pub said-of : Ending → Verdict
 said-of finished = Accepted
-said-of (stopped r c) = stop r c
+said-of (stopped r c) = stopped-at r c
 said-of (out-of-choices r) = Refused 22 r
 
 -- from configuration k, the machine has made this step of the definition of a run and says which record it executed; or the run ends at k, and the machine says how
