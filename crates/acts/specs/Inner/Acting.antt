@@ -75,7 +75,8 @@ pub record Holds (layout : Layout) (t : Side) (s : Stored) (own others latest : 
 -- r is s with the flag of array a set on both sides
 pub record BothSet (s : Stored) (a : ℕ) (r : Stored) : Type 0 where
   pub own : (n : ℕ) (flag : ℕ → Bool) → a < n → s .flags ≡ mask n flag → r .flags ≡ mask n (λ b. cond (eqb b a) true (flag b))
-  pub others : (n : ℕ) (flag : ℕ → Bool) → a < n → s .«other_flags» ≡ mask n flag → r .«other_flags» ≡ mask n (λ b. cond (eqb b a) true (flag b))
+  pub others : (n : ℕ) (flag : ℕ → Bool) → a < n → s .«other_flags» ≡ mask n flag →
+      r .«other_flags» ≡ mask n (λ b. cond (eqb b a) true (flag b))
   pub reads : r .reads ≡ s .reads
   pub writes : r .writes ≡ s .writes
   pub moved : r .moved ≡ s .moved
@@ -90,21 +91,31 @@ BothSetAs (Unmet c) a (Unmet c′) = c′ ≡ c
 
 -- what a record with the action y did, whatever its number, seen from side t: it acted, or it is unmet and nothing has changed
 abbrev pub FollowsAs : Layout → Action → Side → State → List Event → List ℕ → List ℕ → List ℕ → Acted → List ℕ → List ℕ → Type 0
-FollowsAs layout y t σ l own others latest (Done s) own′ latest′ = (lowest-unmet layout y σ ≡ none) × Holds layout t s own′ others latest′ (effect layout y σ) (event 0 y σ ∷ l)
-FollowsAs layout y t σ l own others latest (Unmet c) own′ latest′ = (lowest-unmet layout y σ ≡ some (c .0)) × (own′ ≡ own) × (latest′ ≡ latest)
+FollowsAs layout y t σ l own others latest (Done s) own′ latest′ =
+    (lowest-unmet layout y σ ≡ none)
+    × Holds layout t s own′ others latest′ (effect layout y σ) (event 0 y σ ∷ l)
+FollowsAs layout y t σ l own others latest (Unmet c) own′ latest′ =
+    (lowest-unmet layout y σ ≡ some (c .0)) × (own′ ≡ own) × (latest′ ≡ latest)
 
 -- whatever state the memories, flags and tally held
 abbrev pub Follows : Layout → Action → Side → Stored → List ℕ → List ℕ → List ℕ → Acted → List ℕ → List ℕ → Type 0
-Follows layout y t s own others latest r own′ latest′ = (σ : State) (l : List Event) → Holds layout t s own others latest σ l → FollowsAs layout y t σ l own others latest r own′ latest′
+Follows layout y t s own others latest r own′ latest′ =
+    (σ : State) (l : List Event) → Holds layout t s own others latest σ l →
+    FollowsAs layout y t σ l own others latest r own′ latest′
 
 -- the same of both sides' memories, seen from the host
 abbrev pub ActsAs : Layout → Action → State → List Event → List ℕ → List ℕ → List ℕ → Acted → List ℕ → List ℕ → List ℕ → Type 0
-ActsAs layout y σ l own others latest (Done s) own′ others′ latest′ = (lowest-unmet layout y σ ≡ none) × Holds layout host s own′ others′ latest′ (effect layout y σ) (event 0 y σ ∷ l)
-ActsAs layout y σ l own others latest (Unmet c) own′ others′ latest′ = (lowest-unmet layout y σ ≡ some (c .0)) × (own′ ≡ own) × (others′ ≡ others) × (latest′ ≡ latest)
+ActsAs layout y σ l own others latest (Done s) own′ others′ latest′ =
+    (lowest-unmet layout y σ ≡ none)
+    × Holds layout host s own′ others′ latest′ (effect layout y σ) (event 0 y σ ∷ l)
+ActsAs layout y σ l own others latest (Unmet c) own′ others′ latest′ =
+    (lowest-unmet layout y σ ≡ some (c .0)) × (own′ ≡ own) × (others′ ≡ others) × (latest′ ≡ latest)
 
 -- whatever state the memories, flags and tally held
 abbrev pub Acts : Layout → Action → Stored → List ℕ → List ℕ → List ℕ → Acted → List ℕ → List ℕ → List ℕ → Type 0
-Acts layout y s own others latest r own′ others′ latest′ = (σ : State) (l : List Event) → Holds layout host s own others latest σ l → ActsAs layout y σ l own others latest r own′ others′ latest′
+Acts layout y s own others latest r own′ others′ latest′ =
+    (σ : State) (l : List Event) → Holds layout host s own others latest σ l →
+    ActsAs layout y σ l own others latest r own′ others′ latest′
 
 -- the side that is meant
 abbrev pub side-on : Bool → Side
@@ -114,16 +125,25 @@ side-on on-card = cond on-card card host
 abbrev pub flags-on : Bool → Stored → ℕ
 flags-on on-card s = cond on-card (s .«other_flags») (s .flags)
 
--- the cells `from` up to `to` of array a, or the whole of it, are copied from the other side, where all of them are current; or the first that is stale there, and nothing has changed
+-- the cells `from` up to `to` of array a, or the whole of it, are copied from the other side, where all of them are current; or the first
+-- that is stale there, and nothing has changed
 abbrev pub MovesCells : ℕ → Bool → ℕ → ℕ → Stored → List ℕ → List ℕ → List ℕ → Acted → List ℕ → Type 0
 MovesCells a whole from to s own others latest (Done s′) own′ =
     FirstStale others latest from to to
     × Changed from to (λ c. getD others c 0) own own′
-    × (s′ ≡ record { flags = s .flags; «other_flags» = s .«other_flags»; reads = s .reads; writes = s .writes; moved = s .moved + (to - from); known = s′ .known })
+    × (s′ ≡ record {
+      flags = s .flags;
+      «other_flags» = s .«other_flags»;
+      reads = s .reads;
+      writes = s .writes;
+      moved = s .moved + (to - from);
+      known = s′ .known;
+    })
     × Copied whole a (s .known) (s′ .known)
 MovesCells a whole from to s own others latest (Unmet c) own′ = FirstStale others latest from to (c .0) × (c .0 < to) × (own′ ≡ own)
 
 -- to one side, and the other side is as it was
-pub record MovesOn (on-card : Bool) (a : ℕ) (whole : Bool) (from to : ℕ) (s : Stored) (host card latest : List ℕ) (r : Acted) (host′ card′ : List ℕ) : Type 0 where
+pub record MovesOn (on-card : Bool) (a : ℕ) (whole : Bool) (from to : ℕ) (s : Stored) (host card latest : List ℕ) (r : Acted)
+    (host′ card′ : List ℕ) : Type 0 where
   pub moves : MovesCells a whole from to s (of-side on-card host card) (of-side on-card card host) latest r (of-side on-card host′ card′)
   pub others : of-side on-card card′ host′ ≡ of-side on-card card host

@@ -1,4 +1,5 @@
--- What so many turns of the loop with which a plan begins find for cell 0: an inner service, until a plan can ask for a fixed number of turns.
+-- What so many turns of the loop with which a plan begins find for cell 0: an inner service, until a plan can ask for a fixed number of
+-- turns.
 use Prim.Native.Nat.{ℕ, _<_}
 use mathlib.Core.Path.{_≡_}
 use mathlib.Core.Logic.{_⊎_}
@@ -25,9 +26,11 @@ pub record Loops (f : List ℕ) : Type 0 where
 -- t has the statuses of cell 0 after n turns of that loop from the start, and the lowest record that stops in one of these turns
 abbrev pub FirstLoop : List ℕ → ℕ → Found → Type 0
 FirstLoop f n t =
-    Ran (Power (Goes (layout-of f) 0 (body-of f 0)) n) (StopsWithin (Goes (layout-of f) 0 (body-of f 0)) (Stops (layout-of f) 0 (body-of f 0)) n) (λ u. u ≡ at-start) 65535 t
+    Ran (Power (Goes (layout-of f) 0 (body-of f 0)) n)
+    (StopsWithin (Goes (layout-of f) 0 (body-of f 0)) (Stops (layout-of f) 0 (body-of f 0)) n) (λ u. u ≡ at-start) 65535 t
 
 -- of such a file what is found, of another one nothing
 unfoldable pub AfterTurns : List ℕ → ℕ → Turned → Type 0
 AfterTurns f n t =
-    (Loops f × (t .loops ≡ true) × FirstLoop f n (t .found)) ⊎ ((Loops f → ⊥) × (t ≡ record { loops = false; found = record { set = 0; low = 65535 } }))
+    (Loops f × (t .loops ≡ true) × FirstLoop f n (t .found))
+    ⊎ ((Loops f → ⊥) × (t ≡ record { loops = false; found = record { set = 0; low = 65535 } }))

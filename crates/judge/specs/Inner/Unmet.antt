@@ -12,5 +12,8 @@ use Rattle.judge.specs.Judged.{w-rows}
 
 -- the set decides 15 of each declaration of the pass, and its arrays' first cells can be read
 pub record Decides (f : List ℕ) (starts : List ℕ) (set : List Bool) (e : Extent) : Type 0 where
-  pub fit : (i : ℕ) → i < e .declarations → let a = fields-at f (e .from + i) .array in (a < 32) × (getD starts a 0 ≤ getD starts (a + 1) 0) × (getD starts (a + 1) 0 ≤ 4096)
-  pub rows : (i : ℕ) → i < e .declarations → w-rows f (e .body) i ≡ (row (not (met starts set (fields-at f (e .from + i)))) 15 (e .from + i) ∷ [])
+  pub fit : (i : ℕ) → i < e .declarations →
+      let a = fields-at f (e .from + i) .array in
+      (a < 32) × (getD starts a 0 ≤ getD starts (a + 1) 0) × (getD starts (a + 1) 0 ≤ 4096)
+  pub rows : (i : ℕ) → i < e .declarations →
+      w-rows f (e .body) i ≡ (row (not (met starts set (fields-at f (e .from + i)))) 15 (e .from + i) ∷ [])

@@ -1,4 +1,5 @@
--- No promise of an entry point rests on this text: the records that concern a cell, and a table that leads from each place to the first of them.
+-- No promise of an entry point rests on this text: the records that concern a cell, and a table that leads from each place to the first of
+-- them.
 use Prim.Native.Nat.{ℕ, _+_, _≤_, _<_}
 use mathlib.Core.Path.{_≡_}
 use mathlib.Core.Bool.{Bool, cond, _&&_, _||_}
@@ -17,9 +18,11 @@ cell-at f array offset = span-of (layout-of f) array .first + offset
 unfoldable pub covers : Fields → ℕ → ℕ → Bool
 covers x array offset = eqb array (x .array) && (leb 4 (x .kind) || (leb (x .p) offset && ltb offset (x .q)))
 
--- the first record from r on that concerns the cell, where `next` is the first one after r: a record that covers it, or a branch or loop that holds one which does
+-- the first record from r on that concerns the cell, where `next` is the first one after r: a record that covers it, or a branch or loop
+-- that holds one which does
 abbrev pub nearest : Fields → ℕ → ℕ → ℕ → ℕ → ℕ
-nearest x array offset r next = cond (leb 6 (x .kind)) (cond (ltb next (r + 1 + first-arm x + second-arm x)) r next) (cond (covers x array offset) r next)
+nearest x array offset r next =
+    cond (leb 6 (x .kind)) (cond (ltb next (r + 1 + first-arm x + second-arm x)) r next) (cond (covers x array offset) r next)
 
 -- the table has an entry for each record, and behind them one that says that there is none, 65535
 pub record Spare (f : List ℕ) (ahead : List ℕ) : Type 0 where

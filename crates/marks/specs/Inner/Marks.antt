@@ -1,4 +1,5 @@
--- No promise of an entry point rests on this text: sets of cells, each cell marked or not, and the cells that every way through a block writes.
+-- No promise of an entry point rests on this text: sets of cells, each cell marked or not, and the cells that every way through a block
+-- writes.
 use Prim.Native.Nat.{ℕ, zero, suc, _+_, _-_, _≤_, _<_}
 use mathlib.Core.Path.{_≡_}
 use mathlib.Core.Bool.{Bool, true, false, not, _&&_, _||_}

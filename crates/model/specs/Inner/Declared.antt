@@ -1,4 +1,5 @@
--- No promise of an entry point rests on this text: an empty pass, a declaration from its parts, and the records that declarations give before the rest.
+-- No promise of an entry point rests on this text: an empty pass, a declaration from its parts, and the records that declarations give
+-- before the rest.
 use Prim.Native.Nat.{ℕ}
 use mathlib.Core.Bool.{Bool, _&&_}
 use mathlib.Core.List.{List, [], foldr}

@@ -18,7 +18,8 @@ pub record Least (o : Option ℕ) (P : ℕ → Type 0) : Type 0 where
   pub named : (m : ℕ) → o ≡ some m → P m
   pub least : (r : ℕ) → P r → AtMost o r
 
--- the answer for the cells below c, and then for cell c too, which can stop at the record given: the lower record, and of the same record the lower cell
+-- the answer for the cells below c, and then for cell c too, which can stop at the record given: the lower record, and of the same record
+-- the lower cell
 abbrev pub with-cell : Verdict → ℕ → Option ℕ → Verdict
 with-cell v c none = v
 with-cell Accepted c (some r) = stopped-at r c

@@ -1,4 +1,5 @@
--- No promise of an entry point rests on this text: the status of one cell, that is which of its copies are current and which flags of its array are set.
+-- No promise of an entry point rests on this text: the status of one cell, that is which of its copies are current and which flags of its
+-- array are set.
 use Prim.Native.Nat.{ℕ}
 use mathlib.Core.Bool.{Bool, true, cond, not, _||_}
 use lib.Dec.{eqb}

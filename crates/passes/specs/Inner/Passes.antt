@@ -13,7 +13,13 @@ use Rattle.passes.specs.declared.Extent.{Extent}
 abbrev pub extent-of : Opened → ℕ → Extent
 extent-of o b =
     let from = getD (o .«body_starts») b 0 in
-    record { bodies = o .offset; body = b; from = from; declarations = getD (o .declarations) b 0; records = getD (o .«body_starts») (b + 1) 0 - from }
+    record {
+      bodies = o .offset;
+      body = b;
+      from = from;
+      declarations = getD (o .declarations) b 0;
+      records = getD (o .«body_starts») (b + 1) 0 - from;
+    }
 
 -- the file opens as a declared plan, and its pass of that number stands there
 pub record PassAt (f : List ℕ) (e : Extent) : Type 0 where

@@ -12,7 +12,8 @@ use Rattle.reading.specs.Bytes.{record-count, first-arm, second-arm}
 use Rattle.format.specs.Inner.Walks.{Good, block-between}
 use Rattle.places.specs.declared.Place.{Place}
 
--- a place with its room. Entry a of the room is the first cell of array a, entry 33 + d the end of what holds an arm at depth d, entry 49 + d where the run goes on in it after the arm
+-- a place with its room. Entry a of the room is the first cell of array a, entry 33 + d the end of what holds an arm at depth d, and entry
+-- 49 + d where the run goes on in it after the arm
 pub record Spot : Type 0 where
   pub at : ℕ
   pub end : ℕ
@@ -30,7 +31,13 @@ started records = record { at = 0; end = records; depth = 0; used = 0 }
 
 -- into an arm
 abbrev pub entered : Spot → ℕ → ℕ → ℕ → Spot
-entered p at end back = record { at = at; end = end; depth = p .depth + 1; used = p .used + 1; room = set (set (p .room) (33 + p .depth) (p .end)) (49 + p .depth) back }
+entered p at end back = record {
+  at = at;
+  end = end;
+  depth = p .depth + 1;
+  used = p .used + 1;
+  room = set (set (p .room) (33 + p .depth) (p .end)) (49 + p .depth) back;
+}
 
 -- past a loop
 abbrev pub skipped : Spot → ℕ → Spot
@@ -38,7 +45,13 @@ skipped p at = record { at = at; end = p .end; depth = p .depth; used = p .used 
 
 -- out of an arm
 abbrev pub left-arm : Spot → Spot
-left-arm p = record { at = getD (p .room) (49 + (p .depth - 1)) 0; end = getD (p .room) (33 + (p .depth - 1)) 0; depth = p .depth - 1; used = p .used; room = p .room }
+left-arm p = record {
+  at = getD (p .room) (49 + (p .depth - 1)) 0;
+  end = getD (p .room) (33 + (p .depth - 1)) 0;
+  depth = p .depth - 1;
+  used = p .used;
+  room = p .room;
+}
 
 -- into an arm; an empty one is passed over
 unfoldable pub into : Spot → ℕ → ℕ → ℕ → Spot

@@ -1,4 +1,5 @@
--- No promise of an entry point rests on this text: which cells a record covers, where its array begins at cell `first` and ends before cell `next`.
+-- No promise of an entry point rests on this text: which cells a record covers, where its array begins at cell `first` and ends before cell
+-- `next`.
 use Prim.Native.Nat.{ℕ, _+_}
 use mathlib.Core.Bool.{cond}
 use lib.Dec.{leb}

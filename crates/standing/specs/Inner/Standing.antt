@@ -40,11 +40,27 @@ pub record Runner : Type 0 where
 
 -- from its two parts
 abbrev pub runner : Machine → List ℕ → Runner
-runner m room = record { place = spot (m .place) room; flags = m .flags; others = m .«other_flags»; known = m .known; bodies = m .bodies; last = m .last; verdict = m .verdict; running = m .running }
+runner m room = record {
+  place = spot (m .place) room;
+  flags = m .flags;
+  others = m .«other_flags»;
+  known = m .known;
+  bodies = m .bodies;
+  last = m .last;
+  verdict = m .verdict;
+  running = m .running;
+}
 
 -- its flags and what it knows with a tally: what a record acts on
 abbrev pub stored-with : Runner → Tally → Stored
-stored-with m t = record { flags = m .flags; «other_flags» = m .others; reads = t .reads; writes = t .writes; moved = t .moved; known = m .known }
+stored-with m t = record {
+  flags = m .flags;
+  «other_flags» = m .others;
+  reads = t .reads;
+  writes = t .writes;
+  moved = t .moved;
+  known = m .known;
+}
 
 -- the tally of that
 abbrev pub tally-with : Stored → Tally
@@ -56,11 +72,31 @@ past-record p = record { at = p .at + 1; end = p .end; depth = p .depth; used = 
 
 -- the run has ended
 abbrev pub ended-with : Runner → Verdict → Runner
-ended-with m v = record { place = m .place; flags = m .flags; others = m .others; known = m .known; bodies = m .bodies; last = m .last; verdict = v; running = false }
+ended-with m v = record {
+  place = m .place;
+  flags = m .flags;
+  others = m .others;
+  known = m .known;
+  bodies = m .bodies;
+  last = m .last;
+  verdict = v;
+  running = false;
+}
 
 -- the run has moved on from a record
 abbrev pub moved-to : Runner → Spot → ℕ → ℕ → Known → Runner
-moved-to m p flags others k = record { place = p; flags = flags; others = others; known = k; bodies = m .bodies; last = record { 0 = m .place .at }; verdict = m .verdict; running = m .running }
+moved-to m p flags others k = record {
+  place = p;
+  flags = flags;
+  others = others;
+  known = k;
+  bodies = m .bodies;
+  last = record {
+    0 = m .place .at;
+  };
+  verdict = m .verdict;
+  running = m .running;
+}
 
 -- where the run stands after a record without arms
 abbrev pub after-act : Runner → Acted → Runner
@@ -115,10 +151,13 @@ said-of finished = Accepted
 said-of (stopped r c) = stopped-at r c
 said-of (out-of-choices r) = Refused 22 r
 
--- from configuration k, the machine has made this step of the definition of a run and says which record it executed; or the run ends at k, and the machine says how
+-- from configuration k, the machine has made this step of the definition of a run and says which record it executed; or the run ends at k,
+-- and the machine says how
 abbrev pub StepsAs : List ℕ → List ℕ → Config → Runner → List ℕ → List ℕ → List ℕ → Tally → Step → Type 0
-StepsAs f choices k m own others latest t (Step.next k′) = (m .running ≡ true) × (m .last .0 ≡ next-record (k .left)) × Stands f choices m own others latest t k′
-StepsAs f choices k m own others latest t (Step.ends e) = (m .running ≡ false) × (m .verdict ≡ said-of e) × Stands f choices m own others latest t k
+StepsAs f choices k m own others latest t (Step.next k′) =
+    (m .running ≡ true) × (m .last .0 ≡ next-record (k .left)) × Stands f choices m own others latest t k′
+StepsAs f choices k m own others latest t (Step.ends e) =
+    (m .running ≡ false) × (m .verdict ≡ said-of e) × Stands f choices m own others latest t k
 
 -- one call of `step` is one step of the definition, from whatever configuration the machine, the memories and the tally held
 abbrev pub Steps : List ℕ → List ℕ → Runner → List ℕ → List ℕ → List ℕ → Tally → Runner → List ℕ → List ℕ → List ℕ → Tally → Type 0

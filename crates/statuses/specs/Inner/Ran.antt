@@ -10,7 +10,8 @@ use Rattle.statuses.specs.Inner.Sets.{In}
 abbrev pub Below : ℕ → ℕ → Type 0
 Below low r = (low ≤ r) × (low < 65535)
 
--- t is what is found from the statuses that `from` names, where G says how a status goes on and S at which records it stops; `low` was the lowest stop so far
+-- t is what is found from the statuses that `from` names, where G says how a status goes on and S at which records it stops; `low` was the
+-- lowest stop so far
 pub record Ran (G : Status → Status → Type 0) (S : Status → ℕ → Type 0) (from : Status → Type 0) (low : ℕ) (t : Found) : Type 0 where
   -- the set is the image
   pub exits : (v : Status) → In (t .set) v ↔ ((u : Status) × from u × G u v)

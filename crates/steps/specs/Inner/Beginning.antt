@@ -23,7 +23,18 @@ pub record Fronted (starts room : List ℕ) : Type 0 where
 
 -- before the first record
 abbrev pub first-machine : ℕ → ℕ → ℕ → Machine
-first-machine records arrays bodies = record { place = started records; flags = mask arrays (λ a. true); «other_flags» = 0; known = at-start arrays; bodies = bodies; last = record { 0 = 0 }; verdict = Accepted; running = true }
+first-machine records arrays bodies = record {
+  place = started records;
+  flags = mask arrays (λ a. true);
+  «other_flags» = 0;
+  known = at-start arrays;
+  bodies = bodies;
+  last = record {
+    0 = 0;
+  };
+  verdict = Accepted;
+  running = true;
+}
 
 -- a machine whose room is no longer there has reached a configuration of the run
 pub record ReachesEnd (f choices : List ℕ) (m : Machine) (own others latest : List ℕ) (t : Tally) : Type 0 where

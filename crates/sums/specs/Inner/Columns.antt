@@ -20,8 +20,8 @@ unfoldable pub triangle : ℕ → ℕ
 triangle zero = 0
 triangle (suc k) = suc k + triangle k
 
--- the sums of the columns of the bytes x, whole rows: of the bytes, and of each byte times the number of its row from 1. Byte k of row r, both from 0, has the
--- number 32 · r + k + 1.
+-- the sums of the columns of the bytes x, whole rows: of the bytes, and of each byte times the number of its row from 1. Byte k of row r,
+-- both from 0, has the number 32 · r + k + 1.
 pub record RowsOf (x plain weighted : List ℕ) : Type 0 where
   pub sum : plain-sum plain ≡ plain-sum x
   pub numbered : weighted-sum 1 plain + 32 * plain-sum weighted ≡ weighted-sum 1 x + 32 * plain-sum x

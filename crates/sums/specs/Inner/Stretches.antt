@@ -6,7 +6,8 @@ use lib.ListN.{length, getD}
 use Rattle.sums.specs.Sums.{plain-sum, weighted-sum}
 use Rattle.sums.specs.declared.stretches.Totals.{Totals}
 
--- the sums of the bytes y of the bands taken: of each column; of each byte times the number of its row in its band, from 1; and for each band those of all columns behind it
+-- the sums of the bytes y of the bands taken: of each column; of each byte times the number of its row in its band, from 1; and for each
+-- band those of all columns behind it
 pub record TakenOf (y columns rows behind : List ℕ) : Type 0 where
   pub sum : plain-sum columns ≡ plain-sum y
   pub numbered : weighted-sum 1 columns + 32 * plain-sum rows + 704 * plain-sum behind ≡ weighted-sum 1 y + 32 * plain-sum y

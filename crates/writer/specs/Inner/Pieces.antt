@@ -29,7 +29,8 @@ piece f r =
     let x = fields-at f r in
     let second = r + 1 + first-arm x in
     let next = second + second-arm x in
-    cond (eqb (x .kind) 8) (block-fields (called f (x .p))) (fields (x .kind) 0 0 (place f second - place f (r + 1)) (place f next - place f second) ∷ [])
+    cond (eqb (x .kind) 8) (block-fields (called f (x .p)))
+    (fields (x .kind) 0 0 (place f second - place f (r + 1)) (place f next - place f second) ∷ [])
 
 -- those that stand for the records before r
 unfoldable pub pieces : List ℕ → ℕ → List Fields
