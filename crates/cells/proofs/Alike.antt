@@ -104,4 +104,4 @@ module _ (f : List ℕ) (bodies : ℕ) (w : Plain f bodies) (array offset : ℕ)
   stop-alike r =
       let o = opened-facts f (w .opens) in
       rw (plain-body f) (stops-alike (layout-of f) (cell-at f array (suc offset)) (cell-at f array offset) own (block-between f 0 (record-count f))
-      (block-alike (record-count f) 0 (record-count f) (plain-walk f o (w .kind)) (omega arith) (omega arith)) at-start r)
+      (block-alike (record-count f) 0 (record-count f) (plain-walk f o (w .plain)) (omega arith) (omega arith)) at-start r)

@@ -7,7 +7,7 @@ use mathlib.Core.List.{List, [], _∷_}
 use native.Mathlib.Omega.{arith}
 use lib.Dec.{ltb}
 use lib.ListN.{length, getD, drop, List·getD-append}
-use borrow.Author.Tests.{eq-eqb, le-ltb}
+use borrow.Author.Tests.{le-ltb}
 use Rattle.model.specs.declared.Verdict.{Verdict}
 use Rattle.model.specs.declared.Verdict.the-variants.{Accepted, Refused}
 use Rattle.model.specs.Verdicts.{accepted}
@@ -19,7 +19,7 @@ use Rattle.model.proofs.Runs.{carried}
 use Rattle.model.proofs.Stamps.{tracked}
 use Rattle.model.proofs.Rows.{skips, pass}
 use Rattle.model.proofs.Demand3.{moves-add}
-use Rattle.reading.specs.Bytes.{kind-of, table, layout-of}
+use Rattle.reading.specs.Bytes.{table, layout-of}
 use Rattle.reading.proofs.Tables.{length-table, getD-table}
 use Rattle.format.specs.Opening.{open-rows, opening}
 use Rattle.memories.specs.Memories.{number-of}
@@ -127,7 +127,7 @@ module _ (f : List ℕ) (judges : judged f ≡ Accepted) (small : size (expansio
   unfolding run-rows opening short
   rows =
       let o = expansion-opens f judges small in
-      sym (pass (open-rows (expansion-file f)) _ _ (sym (o .0)) (skips _ _ _ _ _ (rw (eq-eqb (kind-of (expansion-file f)) 2 (o .1))) refl))
+      sym (pass (open-rows (expansion-file f)) _ _ (sym (o .0)) (skips _ _ _ _ _ (rw (o .1)) refl))
 
   long : Roomy (cell-count (layout-of f)) before → short ≡ false
   unfolding short

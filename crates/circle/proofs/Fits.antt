@@ -8,7 +8,7 @@ use native.Mathlib.Decide.{decLt}
 use native.Mathlib.Omega.{arith}
 use lib.Dec.{ltb, leb, eqb}
 use lib.ListN.{length, getD}
-use borrow.Author.Tests.{ltb-true, ltb-false, le-leb, ne-eqb}
+use borrow.Author.Tests.{ltb-true, ltb-false, le-leb}
 use Rattle.model.specs.declared.Verdict.the-variants.{Accepted}
 use Rattle.model.specs.Sides.{side-number, span-of}
 use Rattle.model.specs.Records.{Verb, read, write, copy, need, mark, Action}
@@ -19,7 +19,7 @@ use Rattle.model.specs.Expanding.{expand}
 use Rattle.model.proofs.Booleans.{and-out, and-in}
 use Rattle.model.proofs.Stamps.{as-verb}
 use Rattle.reading.specs.declared.Fields.{Fields}
-use Rattle.reading.specs.Bytes.{kind-of, array-count, body-count, table, length-at, layout-of, records-in, declarations-in, first-record, fields-at, between, lengths-of}
+use Rattle.reading.specs.Bytes.{is-declared, array-count, body-count, table, length-at, layout-of, records-in, declarations-in, first-record, fields-at, between, lengths-of}
 use Rattle.rules.specs.Rules.{fields-fit, deepest}
 use Rattle.format.specs.Opening.{opening}
 use Rattle.format.specs.Plans.{action-of, declaration-of, pass-at, declared-plan-of}
@@ -29,6 +29,7 @@ use Rattle.files.specs.Inner.Short.{block-fits}
 use Rattle.format.specs.Inner.Walks.{Good, block-between, body0-between}
 use Rattle.reading.proofs.Ranges.{in-range}
 use Rattle.reading.proofs.Tables.{length-table, arrays-counted, array-length, next-record}
+use Rattle.reading.proofs.FileKinds.{not-plain}
 use Rattle.rules.proofs.Fields.{fit-declaration}
 use Rattle.rules.proofs.Rules.{Tests}
 use Rattle.format.proofs.Walking.{Facts, opened-facts, good-parts}
@@ -98,7 +99,7 @@ module _ (f : List ℕ) where
         (fit-declaration f x _ _ _ (record { arrays-are = refl; bodies-are = refl; size-is = refl }) h k ∙ fits) .0
 
 -- the blocks made of the records of body b of a declared plan, from record `low` on, record by record; `most` levels are allowed in all
-module _ (f : List ℕ) (kind : kind-of f ≡ 1) (b low most : ℕ) (enough : 8 ≤ most) (block : ℕ → ℕ → Block Action) where
+module _ (f : List ℕ) (declared : is-declared f ≡ true) (b low most : ℕ) (enough : 8 ≤ most) (block : ℕ → ℕ → Block Action) where
   record Parted : Type 0 where
     none : (r end : ℕ) → end ≤ r → block r end ≡ Block.done
     branch : (depth r end : ℕ) → r < end → Good f b depth r end → fields-at f r .kind ≡ 6
@@ -111,7 +112,7 @@ module _ (f : List ℕ) (kind : kind-of f ≡ 1) (b low most : ℕ) (enough : 8 
   -- "in a body of a declared plan inside at most 7"
   shallow : (depth r end : ℕ) → Tests f b depth r end → 6 ≤ fields-at f r .kind → fields-at f r .kind ≤ 7 → depth < 8
   unfolding deepest
-  shallow depth r end t h k = let l : depth ≤ 7 = ltb-false 7 depth (rw (in-range 6 7 (fields-at f r .kind) h k, ne-eqb (kind-of f) 2 (λ z. omega arith)) at (t .shallow)) in omega arith
+  shallow depth r end t h k = let l : depth ≤ 7 = ltb-false 7 depth (rw (in-range 6 7 (fields-at f r .kind) h k, not-plain f declared) at (t .shallow)) in omega arith
 
   module _ (parted : Parted) where
     parts-fit : (fuel levels depth r end : ℕ) → end ≤ r + fuel → depth + levels ≡ most → depth ≤ 8 → low ≤ r → Good f b depth r end → block-fits (layout-of f) levels (block r end) ≡ true
@@ -143,7 +144,7 @@ module _ (f : List ℕ) (kind : kind-of f ≡ 1) (b low most : ℕ) (enough : 8 
     body-fits r end l g = parts-fit end most 0 r end (omega arith) (omega arith) (omega arith) l g
 
 -- a file that opens as a declared plan
-module _ (f : List ℕ) (w : Facts f) (kind : kind-of f ≡ 1) where
+module _ (f : List ℕ) (w : Facts f) (declared : is-declared f ≡ true) where
   arrays-within : arrays-fit (layout-of f) ≡ true
   unfolding lengths-of
   arrays-within =
@@ -159,26 +160,26 @@ module _ (f : List ℕ) (w : Facts f) (kind : kind-of f ≡ 1) where
     abbrev until : ℕ
     until = first-record f b + declarations-in f b
 
-    pass-parted : Parted f kind b until 8 (omega arith) (block-between f)
+    pass-parted : Parted f declared b until 8 (omega arith) (block-between f)
     pass-parted = record {
       none = block-none f;
       branch = λ depth r end m g k. (r, block-branch f r end m (walk-of g) (fields-at f r) refl k);
       loop = λ depth r end m g k. (r, block-loop f r end m (walk-of g) (fields-at f r) refl k);
       other = λ levels depth r end d e h m g j k rest.
           let t = good-parts f b depth r end m g .tests in
-          let kinds = pass-kind f w kind b p l r h (t .allows) in
+          let kinds = pass-kind f w declared b p l r h (t .allows) in
           rw (block-act f r end m (walk-of g) (fields-at f r) refl j k) (and-in _ _ (action-fit f (fields-at f r) (t .fits) (kinds .0) (omega arith)) rest);
     }
 
     declarations-fit : all-pass (λ (d : Declaration). ltb (d .array) (length (lengths-of f))) (pass-at f b .declarations) ≡ true
     unfolding pass-at
     declarations-fit = all-table _ _ (declarations-in f b) λ i h.
-        let g = pass-good f w kind b p l i (omega arith) in
-        let d = pass-declaration f w kind b p l i h in
+        let g = pass-good f w declared b p l i (omega arith) in
+        let d = pass-declaration f w declared b p l i h in
         declaration-fit f (fields-at f (first-record f b + i)) (good-parts f b 0 _ _ (omega (arith, w .bounds .declared b l, next-record f b l)) g .tests .fits) (d .0) (d .1)
 
     others-fit : block-fits (layout-of f) 8 (pass-at f b .body) ≡ true
-    others-fit = rw (pass-body f w kind b p l) (body-fits f kind b until 8 (omega arith) (block-between f) pass-parted until _ (omega arith) (rw (next-record f b l) at (pass-good f w kind b p l (declarations-in f b) (omega arith))))
+    others-fit = rw (pass-body f w declared b p l) (body-fits f declared b until 8 (omega arith) (block-between f) pass-parted until _ (omega arith) (rw (next-record f b l) at (pass-good f w declared b p l (declarations-in f b) (omega arith))))
 
     pass-fits : called-fits (pass-at f b) ≡ true
     pass-fits = and-in _ _ declarations-fit others-fit
@@ -191,7 +192,7 @@ module _ (f : List ℕ) (w : Facts f) (kind : kind-of f ≡ 1) where
   passes-fit = all-table called-fits (λ b. pass-at f (suc b)) (body-count f - 1) (λ b h. pass-fits (suc b) (omega arith) (omega arith))
 
   -- body 0, each call with what stands for it
-  body0-parted : Parted f kind 0 0 16 (omega arith) (λ r end. expand passes (body0-between f r end))
+  body0-parted : Parted f declared 0 0 16 (omega arith) (λ r end. expand passes (body0-between f r end))
   body0-parted = record {
     none = λ r end h. ap (expand passes) (body0-none f r end h);
     branch = λ depth r end m g k. (r, ap (expand passes) (body0-branch f r end m (walk-of g) (fields-at f r) refl k));
@@ -206,10 +207,10 @@ module _ (f : List ℕ) (w : Facts f) (kind : kind-of f ≡ 1) where
   block-within : block-fits (layout-of f) 16 (expansion-of f .body) ≡ true
   block-within =
       numbered-fits (layout-of f) 0 (expand passes (declared-plan-of f .body0)) 16
-      ∙ rw (body0-body f w) (body-fits f kind 0 0 16 (omega arith) (λ r end. expand passes (body0-between f r end)) body0-parted 0 (records-in f 0) (omega arith) (body0-good f w))
+      ∙ rw (body0-body f w) (body-fits f declared 0 0 16 (omega arith) (λ r end. expand passes (body0-between f r end)) body0-parted 0 (records-in f 0) (omega arith) (body0-good f w))
 
-pub expansion-fits : (f : List ℕ) → opening f ≡ Accepted → kind-of f ≡ 1 → size (expansion-of f .body) ≤ 1024 → plain-fits (expansion-of f) ≡ true
+pub expansion-fits : (f : List ℕ) → opening f ≡ Accepted → is-declared f ≡ true → size (expansion-of f .body) ≤ 1024 → plain-fits (expansion-of f) ≡ true
 unfolding declared-plan-of
-expansion-fits f e kind few =
+expansion-fits f e declared few =
     let w = opened-facts f (sym e) in
-    and-in _ _ (arrays-within f w kind) (and-in _ _ (block-within f w kind) (le-leb _ _ few))
+    and-in _ _ (arrays-within f w declared) (and-in _ _ (block-within f w declared) (le-leb _ _ few))

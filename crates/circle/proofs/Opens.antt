@@ -1,15 +1,16 @@
 -- The expansion's file opens, as a plain plan, and as the expansion.
 use mathlib.Core.Path.{_≡_, sym, _∙_}
+use mathlib.Core.Bool.{true}
 use mathlib.Core.List.{List}
 use Prim.Native.Nat.{ℕ, _≤_}
 use Rattle.model.specs.declared.Verdict.the-variants.{Accepted}
 use Rattle.model.specs.Blocks.{size}
 use Rattle.model.specs.Expanding.{expand}
-use Rattle.reading.specs.Bytes.{kind-of}
+use Rattle.reading.specs.Bytes.{is-plain}
 use Rattle.format.specs.Opening.{opening}
 use Rattle.format.specs.Plans.{plan-of, declared-plan-of}
 use Rattle.files.specs.Bounds.{numbered-plan}
-use Rattle.files.proofs.RoundTrip.{plain-kind, plain-round-trip}
+use Rattle.files.proofs.RoundTrip.{plain-is-plain, plain-round-trip}
 use Rattle.judge.specs.Judged.{judged}
 use Rattle.files.specs.Expansions.{expansion-of, expansion-file}
 use Rattle.expand.proofs.Laws.Answers.{accepted-file}
@@ -21,8 +22,8 @@ numbered-so : (f : List ℕ) → numbered-plan (expansion-of f) ≡ expansion-of
 numbered-so f = rw (numbered-again 0 0 (expand (declared-plan-of f .passes) (declared-plan-of f .body0)))
 
 pub expansion-opens : (f : List ℕ) → judged f ≡ Accepted → size (expansion-of f .body) ≤ 1024
-    → (opening (expansion-file f) ≡ Accepted) × (kind-of (expansion-file f) ≡ 2) × (plan-of (expansion-file f) ≡ expansion-of f)
+    → (opening (expansion-file f) ≡ Accepted) × (is-plain (expansion-file f) ≡ true) × (plan-of (expansion-file f) ≡ expansion-of f)
 expansion-opens f e few =
     let file = accepted-file f (sym e) in
-    let trip = plain-round-trip (expansion-of f) (expansion-fits f (sym (file .opened)) (file .kind) few) in
-    (trip .0, plain-kind (expansion-of f), trip .1 ∙ numbered-so f)
+    let trip = plain-round-trip (expansion-of f) (expansion-fits f (sym (file .opened)) (file .declared) few) in
+    (trip .0, plain-is-plain (expansion-of f), trip .1 ∙ numbered-so f)

@@ -2,7 +2,6 @@
 use mathlib.Core.Path.{_≡_}
 use mathlib.Core.List.{List}
 use Prim.Native.Nat.{ℕ}
-use borrow.Author.Tests.{eq-eqb}
 use Rattle.model.specs.declared.Verdict.the-variants.{Accepted}
 use Rattle.model.specs.Check.{Answers}
 use Rattle.model.proofs.Stuck.{accepted-iff}
@@ -24,5 +23,5 @@ expansion-accepted f accepted = accepted-iff (expansion-of f) .1 (λ cs. file-de
 pub written-opens : ClaimOpens
 written-opens f out e =
     let (accepted, few) = judged-and-small f out e in
-    let (opens, kind, same) = expansion-opens f accepted few in
-    (opens, eq-eqb _ _ kind, same, rw same (expansion-accepted f accepted))
+    let (opens, plain, same) = expansion-opens f accepted few in
+    (opens, plain, same, rw same (expansion-accepted f accepted))

@@ -53,7 +53,7 @@ module _ (f : List ℕ) (bodies : ℕ) (w : Plain f bodies) (r : ℕ) (h : r < r
   pub edges : (x : Fields) → x ≡ fields-at f r → x .kind ≤ 3 → Edges f x
   edges x e k =
       let o = opened-facts f (w .opens) in
-      let b = begins f (record-count f) (record-count f) 0 (record-count f) (plain-walk f o (w .kind)) (omega arith) (omega arith) r (omega arith) h in
+      let b = begins f (record-count f) (record-count f) 0 (record-count f) (plain-walk f o (w .plain)) (omega arith) (omega arith) r (omega arith) h in
       let n = here f bodies r (b .end) w (b .less) (b .below) (b .walk) x e in
       let t = cells-fit f x (n .steps .fits) (n .low) k in
       let a : span-of (layout-of f) (suc (x .array)) .first ≤ span-of (layout-of f) (array-count f) .first = first-rises (lengths-of f) _ _ (omega (arith, t .0 .1)) in

@@ -1,7 +1,7 @@
 -- What holds of a file in which no row of header, contents and tail does: its bounds.
-use mathlib.Core.Path.{_≡_}
+use mathlib.Core.Path.{_≡_, sym, _∙_}
 use mathlib.Core.Logic.{⊎-elim}
-use mathlib.Core.Bool.{false, not, _&&_, _||_}
+use mathlib.Core.Bool.{true, false, not, true≢false, _&&_, _||_}
 use mathlib.Core.List.{List}
 use Prim.Native.Nat.{ℕ, zero, suc, _+_, _*_, _≤_, _<_}
 use native.Mathlib.Omega.{arith}
@@ -12,9 +12,10 @@ use Rattle.model.proofs.Booleans.{or-none, or-out, and-out}
 use Rattle.model.specs.declared.Verdict.the-variants.{Accepted}
 use Rattle.model.specs.Sides.{cell-count, span-of}
 use Rattle.model.specs.Rows.{answer-of, all-rows}
-use Rattle.reading.specs.Bytes.{kind-of, array-count, body-count, length-at, layout-of, records-in, declarations-in, sizes-of, first-record, record-count, bodies-at, between, lengths-of, byte-at, entry-at}
+use Rattle.reading.specs.Bytes.{is-declared, is-plain, kind-of, array-count, body-count, length-at, layout-of, records-in, declarations-in, sizes-of, first-record, record-count, bodies-at, between, lengths-of, byte-at, entry-at}
 use Rattle.frame.specs.Frame.{header-fits, header-rows, tail-rows}
 use Rattle.contents.specs.Contents.{array-rows, entry-rows, contents-rows, front-rows}
+use Rattle.reading.proofs.FileKinds.{not-plain}
 use Rattle.reading.proofs.Ranges.{of-range}
 use Rattle.model.proofs.Rows.{skipped, passed, each-passed}
 use Rattle.reading.proofs.Tables.{first-zero, all-cells}
@@ -24,7 +25,7 @@ pub record Header (f : List ℕ) : Type 0 where
   pub kind : (1 ≤ kind-of f) × (kind-of f ≤ 2)
   pub arrays : (1 ≤ array-count f) × (array-count f ≤ 32)
   pub bodies : (1 ≤ body-count f) × (body-count f ≤ 32)
-  pub plain : kind-of f ≡ 2 → body-count f ≡ 1
+  pub plain : is-plain f ≡ true → body-count f ≡ 1
 
 -- what holds of a file in which no row of header, contents and tail does
 pub record Bounds (f : List ℕ) : Type 0 where
@@ -43,7 +44,7 @@ module _ (f : List ℕ) where
       let kinds = between 1 2 (kind-of f) in
       let arrays = between 1 32 (array-count f) in
       let bodies = between 1 32 (body-count f) in
-      let one = eqb (kind-of f) 1 || eqb (body-count f) 1 in
+      let one = is-declared f || eqb (body-count f) 1 in
       let w₁ = and-out (kinds && arrays && bodies && one) _ (not-false _ (skipped _ _ _ _ (skipped _ _ _ _ e .1) .0)) in
       let w₂ = and-out (kinds && arrays && bodies) one (w₁ .0) in
       let w₃ = and-out (kinds && arrays) bodies (w₂ .0) in
@@ -52,7 +53,7 @@ module _ (f : List ℕ) where
         kind = of-range 1 2 _ (w₄ .0);
         arrays = of-range 1 32 _ (w₄ .1);
         bodies = of-range 1 32 _ (w₃ .1);
-        plain = λ k. ⊎-elim (λ u. let v : kind-of f ≡ 1 = eqb-true _ _ u in absurd (omega arith)) (eqb-true _ _) (or-out (eqb (kind-of f) 1) _ (w₂ .1));
+        plain = λ k. ⊎-elim (λ u. absurd (true≢false (sym k ∙ not-plain f u))) (eqb-true _ _) (or-out (is-declared f) _ (w₂ .1));
       }
 
   array-bounds : (a : ℕ) → Accepted ≡ answer-of (array-rows f a) → ((1 ≤ length-at f a) × (length-at f a ≤ 4096)) × (span-of (layout-of f) (suc a) .first ≤ 4096)

@@ -7,12 +7,12 @@ use native.Mathlib.Omega.{arith}
 use native.Mathlib.Nat.{zero-add}
 use lib.ListN.{length, length-map}
 use lib.Dec.{leb}
-use borrow.Author.Tests.{leb-true, le-leb}
+use borrow.Author.Tests.{eq-eqb, leb-true, le-leb}
 use Rattle.model.specs.declared.Verdict.the-variants.{Accepted}
 use Rattle.model.specs.Blocks.{size, Plan}
 use Rattle.model.specs.Judging.{DeclaredPlan}
 use Rattle.model.proofs.Booleans.{and-out, and-in}
-use Rattle.reading.specs.Bytes.{kind-of, body-count, table, records-in, first-record, record-count, fields-at, between}
+use Rattle.reading.specs.Bytes.{is-declared, is-plain, body-count, table, records-in, first-record, record-count, fields-at, between}
 use Rattle.rules.specs.Rules.{allowed, deepest}
 use Rattle.records.specs.Records.{body-rows}
 use Rattle.format.specs.Opening.{opening}
@@ -39,8 +39,8 @@ module _ (plan : Plan) where
   plain-laid : Laid plain 2 (plan .layout) (plain-body ∷ [])
   plain-laid = laid 2 (plan .layout) (plain-body ∷ [])
 
-  pub plain-kind : kind-of (plain-file plan) ≡ 2
-  plain-kind = plain-laid .kind-is
+  pub plain-is-plain : is-plain (plain-file plan) ≡ true
+  plain-is-plain = eq-eqb _ 2 (plain-laid .kind-is)
 
   -- all records are those of the one body
   plain-count : record-count plain ≡ size (plan .body)
@@ -89,8 +89,8 @@ module _ (plan : DeclaredPlan) where
   declared-laid : Laid declared 1 (plan .layout) bodies
   declared-laid = laid 1 (plan .layout) bodies
 
-  pub declared-kind : kind-of (declared-file plan) ≡ 1
-  declared-kind = declared-laid .kind-is
+  pub declared-is-declared : is-declared (declared-file plan) ≡ true
+  declared-is-declared = eq-eqb _ 1 (declared-laid .kind-is)
 
   placed0 : Placed declared 0 first-body
   placed0 = head-of (declared-laid .placed)

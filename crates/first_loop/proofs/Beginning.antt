@@ -10,7 +10,7 @@ use borrow.Author.Tests.{eqb-true, eqb-false, eq-eqb, ne-eqb, not-false}
 use Rattle.model.proofs.Booleans.{or-none}
 use Rattle.model.specs.Sides.{span-of}
 use Rattle.reading.specs.declared.Fields.{Fields}
-use Rattle.reading.specs.Bytes.{kind-of, layout-of, record-count, fields-at, first-arm, lengths-of}
+use Rattle.reading.specs.Bytes.{is-plain, kind-of, layout-of, record-count, fields-at, first-arm, lengths-of}
 use Rattle.format.specs.Inner.Walks.{Plain, block-between}
 use Rattle.reading.proofs.Tables.{first-zero, array-length}
 use Rattle.format.proofs.Walking.{opened-facts, steps}
@@ -39,7 +39,7 @@ module _ (f : List ℕ) where
   -- the body of record 0
   pub first-body : (bodies : ℕ) → Plain f bodies → 0 < record-count f → (x : Fields) → x ≡ fields-at f 0 → (second : ℕ) → second ≡ 1 + first-arm x → Body f 0 second
   first-body bodies w h x e second es =
-      let s = steps f 0 (record-count f) h (plain-walk f (opened-facts f (w .opens)) (w .kind)) x e in
+      let s = steps f 0 (record-count f) h (plain-walk f (opened-facts f (w .opens)) (w .plain)) x e in
       let z : second ≡ 0 + 1 + first-arm x = omega arith in
       record { ends = rw (z, e); below = omega (arith, s .inside); walk = rw z (s .one) }
 
@@ -51,16 +51,16 @@ module _ (f : List ℕ) where
   module _ (kind records : ℕ) (ek : kind ≡ kind-of f) (er : records ≡ record-count f) where
     pub no-record : (not (eqb kind 2) || eqb records 0) ≡ true → Loops f → ⊥
     no-record e l =
-        let k : eqb kind 2 ≡ true = eq-eqb kind 2 (ek ∙ l .plain) in
+        let k : eqb kind 2 ≡ true = eq-eqb kind 2 (ek ∙ eqb-true _ _ (l .plain)) in
         let r : eqb records 0 ≡ false = ne-eqb records 0 (λ z. omega (arith, l .one)) in
         let z : _≡_ {A = Bool} true false = sym e ∙ rw (k, r) in
         true≢false z
 
-    pub some-record : (not (eqb kind 2) || eqb records 0) ≡ false → (kind-of f ≡ 2) × (0 < record-count f)
+    pub some-record : (not (eqb kind 2) || eqb records 0) ≡ false → (is-plain f ≡ true) × (0 < record-count f)
     some-record e =
         let p = or-none (not (eqb kind 2)) (eqb records 0) e in
         let n = eqb-false records 0 (p .1) in
-        (sym ek ∙ eqb-true kind 2 (not-false _ (p .0)), omega arith)
+        (eq-eqb _ 2 (sym ek ∙ eqb-true kind 2 (not-false _ (p .0))), omega arith)
 
   -- of a file that is no such plan
   pub after-none : (n : ℕ) (t : Turned) → (Loops f → ⊥) → t ≡ record { loops = false; found = record { set = 0; low = 65535 } } → AfterTurns f n t

@@ -12,7 +12,7 @@ use borrow.Author.Tests.{eq-eqb, ne-eqb, ltb-true, leb-true}
 use Rattle.model.specs.Records.{Verb, read, write, copy, need, mark, Action}
 use Rattle.model.proofs.Booleans.{and-out}
 use Rattle.reading.specs.declared.Fields.{Fields}
-use Rattle.reading.specs.Bytes.{kind-of, array-count, body-count, length-at, record-count, fields-at, first-arm, second-arm}
+use Rattle.reading.specs.Bytes.{array-count, body-count, length-at, record-count, fields-at, first-arm, second-arm}
 use Rattle.rules.specs.Rules.{fields-fit, allowed}
 use Rattle.format.specs.Plans.{side-of, action-of}
 use Rattle.format.specs.Inner.Walks.{Plain, Walkable}
@@ -30,7 +30,7 @@ module _ (f : List ℕ) (bodies : ℕ) (w : Plain f bodies) where
   pub plain-kind : (r end : ℕ) → r < end → Walkable f r end → (1 ≤ fields-at f r .kind) × (fields-at f r .kind ≤ 7)
   unfolding allowed
   plain-kind r end h g =
-      of-range 1 7 _ (rw (eq-eqb (kind-of f) 2 (w .kind)) at (good-parts f (g .body) (g .depth) r end h (g .good) .tests .allows))
+      of-range 1 7 _ (rw (w .plain) at (good-parts f (g .body) (g .depth) r end h (g .good) .tests .allows))
 
 -- fields that keep their rules
 module _ (f : List ℕ) (x : Fields) (e : fields-fit f x ≡ true) where

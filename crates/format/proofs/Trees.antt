@@ -9,12 +9,13 @@ use native.Mathlib.Omega.{arith}
 use borrow.Author.Tests.{lt-ltb, le-ltb, eq-eqb, ne-eqb}
 use Rattle.model.specs.Blocks.{Block}
 use Rattle.reading.specs.declared.Fields.{Fields}
-use Rattle.reading.specs.Bytes.{kind-of, body-count, records-in, declarations-in, sizes-of, first-record, record-count, fields-at, first-arm, second-arm}
+use Rattle.reading.specs.Bytes.{is-declared, is-plain, body-count, records-in, declarations-in, sizes-of, first-record, record-count, fields-at, first-arm, second-arm}
 use Rattle.rules.specs.Rules.{allowed}
 use Rattle.format.specs.Plans.{action-of, block-of, pass-at, plan-of, declared-plan-of}
 use Rattle.format.specs.Inner.Walks.{Good, Walkable, block-between, body0-between, call-of}
 use Rattle.reading.proofs.Ranges.{of-range, out-of-range}
 use Rattle.reading.proofs.Tables.{first-zero, next-record}
+use Rattle.reading.proofs.FileKinds.{not-plain}
 use Rattle.format.proofs.Walking.{Facts, good-parts, steps}
 
 -- the block of the records r up to `end`, of whatever leaves
@@ -120,12 +121,12 @@ no-arms x j k = (rw (out-of-range 6 7 (x .kind) (λ u v. omega arith)), rw (ne-e
 -- the bodies of a file that opens, as walks
 module _ (f : List ℕ) (w : Facts f) where
   -- the body of a plain plan
-  pub plain-good : kind-of f ≡ 2 → Good f 0 0 0 (record-count f)
+  pub plain-good : is-plain f ≡ true → Good f 0 0 0 (record-count f)
   plain-good k =
       let one : body-count f ≡ 1 = w .bounds .header .plain k in
       rw one (rw (first-zero (sizes-of f)) at (w .good 0 (omega arith)))
 
-  pub plain-walk : kind-of f ≡ 2 → Walkable f 0 (record-count f)
+  pub plain-walk : is-plain f ≡ true → Walkable f 0 (record-count f)
   plain-walk k = record { body = 0; depth = 0; good = plain-good k }
 
   pub plain-body : plan-of f .body ≡ block-between f 0 (record-count f)
@@ -144,7 +145,7 @@ module _ (f : List ℕ) (w : Facts f) where
   body0-body = refl
 
   -- pass b: its declarations, and then its other records
-  module _ (k : kind-of f ≡ 1) (b : ℕ) (p : 1 ≤ b) (l : b < body-count f) where
+  module _ (k : is-declared f ≡ true) (b : ℕ) (p : 1 ≤ b) (l : b < body-count f) where
     pass-end : first-record f (suc b) ≡ first-record f b + records-in f b
     pass-end = next-record f b l
 
@@ -152,12 +153,12 @@ module _ (f : List ℕ) (w : Facts f) where
     unfolding allowed
     declaration r d g =
         let h : r < first-record f (suc b) = omega (arith, pass-end, w .bounds .declared b l) in
-        of-range 16 18 _ (rw (ne-eqb (kind-of f) 2 (λ z. omega arith), ne-eqb b 0 (λ z. omega arith), lt-ltb r _ d) at (good-parts f b 0 r _ h g .tests .allows))
+        of-range 16 18 _ (rw (not-plain f k, ne-eqb b 0 (λ z. omega arith), lt-ltb r _ d) at (good-parts f b 0 r _ h g .tests .allows))
 
     -- "then kinds 1 to 7"
     pub pass-kind : (r : ℕ) → first-record f b + declarations-in f b ≤ r → allowed f b r (fields-at f r) ≡ true → (1 ≤ fields-at f r .kind) × (fields-at f r .kind ≤ 7)
     unfolding allowed
-    pass-kind r h e = of-range 1 7 _ (rw (ne-eqb (kind-of f) 2 (λ z. omega arith), ne-eqb b 0 (λ z. omega arith), le-ltb r (first-record f b + declarations-in f b) h) at e)
+    pass-kind r h e = of-range 1 7 _ (rw (not-plain f k, ne-eqb b 0 (λ z. omega arith), le-ltb r (first-record f b + declarations-in f b) h) at e)
 
     pub pass-good : (i : ℕ) → i ≤ declarations-in f b → Good f b 0 (first-record f b + i) (first-record f (suc b))
     pass-good zero h = rw add-zero (w .good b l)

@@ -17,7 +17,7 @@ use Rattle.model.specs.Judging.{R, W, RW, Declaration, permits, every-record, d
 use Rattle.model.specs.Inner.Declared.{declares}
 use Rattle.reading.specs.declared.Fields.{Fields}
 use Rattle.model.specs.Rows.{row, answer-of, all-rows}
-use Rattle.reading.specs.Bytes.{kind-of, is-declared, body-count, layout-of, records-in, declarations-in, first-record, bodies-at, fields-at, between}
+use Rattle.reading.specs.Bytes.{is-declared, body-count, layout-of, records-in, declarations-in, first-record, bodies-at, fields-at, between}
 use Rattle.format.specs.Opening.{open-rows, opening}
 use Rattle.format.specs.Plans.{side-of, action-of, declaration-of, pass-at, declared-plan-of}
 use Rattle.format.proofs.Acts.{acting}
@@ -86,7 +86,7 @@ use-kept ds x r low high = elim (decLt (x .kind) 3) [
     ]
 
 -- pass b of a declared plan that opens, number by number
-module _ (f : List ℕ) (a : Accepted ≡ opening f) (k : kind-of f ≡ 1) (b : ℕ) (low : 1 ≤ b) (high : b < body-count f) where
+module _ (f : List ℕ) (a : Accepted ≡ opening f) (k : is-declared f ≡ true) (b : ℕ) (low : 1 ≤ b) (high : b < body-count f) where
   abbrev extent : Extent
   extent = record { bodies = bodies-at f; body = b; from = first-record f b; declarations = declarations-in f b; records = records-in f b }
 
@@ -166,10 +166,8 @@ accepted-rules f =
           let q = passed (open-rows f) _ (sym e) in
           let s = skipped _ _ _ _ (q .1) in
           let d = not-false (is-declared f) (s .0) in
-          let k = eqb-true (kind-of f) 1 d in
-          (sym (q .0), d, rules .1 (λ b l. pass-accepts f (q .0) k (suc b) (omega arith) (omega arith) .0 (passes .0 (s .1) b l))),
-      λ w. let k = eqb-true (kind-of f) 1 (w .1) in
-          sym (judged-passes f (sym (w .0)) k Accepted (passes .1 (λ b l. pass-accepts f (sym (w .0)) k (suc b) (omega arith) (omega arith) .1 (rules .0 (w .2) b l)))),
+          (sym (q .0), d, rules .1 (λ b l. pass-accepts f (q .0) d (suc b) (omega arith) (omega arith) .0 (passes .0 (s .1) b l))),
+      λ w. sym (judged-passes f (sym (w .0)) (w .1) Accepted (passes .1 (λ b l. pass-accepts f (sym (w .0)) (w .1) (suc b) (omega arith) (omega arith) .1 (rules .0 (w .2) b l)))),
     )
 
 -- the row of 15, whatever the file

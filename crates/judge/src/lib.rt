@@ -1,9 +1,10 @@
 // The judge: numbers 11 to 15.
 ghost use mathlib.Core.Path.{_≡_};
+ghost use mathlib.Core.Bool.{true};
 ghost use Prim.Native.Nat.{ℕ, suc, _-_};
 ghost use Rattle.model.specs.declared.Verdict.the-variants.{Accepted};
 ghost use Rattle.model.specs.Rows.{answer-of, all-rows};
-ghost use Rattle.reading.specs.Bytes.{kind-of, body-count, declarations-in};
+ghost use Rattle.reading.specs.Bytes.{is-declared, body-count, declarations-in};
 ghost use Rattle.contents.specs.Inner.Findings.{found};
 ghost use Rattle.format.specs.Opening.{opening, opened};
 ghost use Rattle.passes.specs.Inner.Passes.{PassAt};
@@ -80,7 +81,7 @@ fn judge_pass(plan: &[u8], starts: &[u16; STARTS], e: Extent) -> Verdict
 
 // Numbers 12 to 15 of every pass, in which opening found o.
 fn all_passes(plan: &[u8], o: Opened) -> Verdict
-    requires { ⌜ (Accepted ≡ opening (now plan)) × (kind-of (now plan) ≡ 1) × (o ≡ found (now plan)) ⌝ }
+    requires { ⌜ (Accepted ≡ opening (now plan)) × (is-declared (now plan) ≡ true) × (o ≡ found (now plan)) ⌝ }
     ensures { λ v. ⌜ v ≡ answer-of (all-rows (body-count (now (plan .entry)) - 1) (λ (b : ℕ). pass-rows (now (plan .entry)) (suc b))) ⌝ }
 {
     let bodies = o.bodies as usize;

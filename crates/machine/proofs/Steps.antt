@@ -22,7 +22,7 @@ use Rattle.model.specs.declared.Tally.{Tally}
 use Rattle.model.specs.Runs.{Config, Ending, finished, stopped, out-of-choices, Step, step, lowest-unmet, onward, tally, proper}
 use Rattle.model.proofs.Runs.{config, event}
 use Rattle.reading.specs.declared.Fields.{Fields}
-use Rattle.reading.specs.Bytes.{kind-of, array-count, layout-of, record-count, fields-at, between, first-arm, second-arm}
+use Rattle.reading.specs.Bytes.{array-count, layout-of, record-count, fields-at, between, first-arm, second-arm}
 use Rattle.rules.specs.Rules.{fields-fit, deepest}
 use Rattle.format.specs.Plans.{action-of, plan-of}
 use Rattle.format.specs.Inner.Walks.{Plain, Starts, Walkable, block-between}
@@ -85,7 +85,7 @@ module _ (f : List ℕ) (bodies : ℕ) (w : Plain f bodies) (d r end : ℕ) (par
   unfolding deepest
   not-deep k =
       let s : (between 6 7 (x .kind) && ltb (deepest f) d) ≡ false = rw e (parts .tests .shallow) in
-      let t : ltb 15 d ≡ false = rw (in-range 6 7 (x .kind) k (kind-is .1), eq-eqb (kind-of f) 2 (w .kind)) at s in
+      let t : ltb 15 d ≡ false = rw (in-range 6 7 (x .kind) k (kind-is .1), w .plain) at s in
       omega (arith, ltb-false 15 d t)
 
 -- what the runner knows of a record of kind 1 to 5, whose cells are `from` up to `to` and whose array is `first` up to `next`, before it acts

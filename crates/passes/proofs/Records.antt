@@ -11,13 +11,14 @@ use lib.ListN.{getD}
 use borrow.Author.Tests.{ltb-true, eqb-true, le-ltb, ne-eqb}
 use Rattle.model.proofs.Booleans.{and-out}
 use Rattle.reading.specs.declared.Fields.{Fields}
-use Rattle.reading.specs.Bytes.{kind-of, array-count, body-count, length-at, declarations-in, sizes-of, first-record, fields-at, first-arm, second-arm}
+use Rattle.reading.specs.Bytes.{is-declared, array-count, body-count, length-at, declarations-in, sizes-of, first-record, fields-at, first-arm, second-arm}
 use Rattle.reading.specs.Inner.Places.{Inside}
 use Rattle.rules.specs.Rules.{fields-fit, allowed}
 use Rattle.format.specs.Inner.Walks.{Good, Walkable, block-between}
 use Rattle.format.specs.Plans.{pass-at}
 use Rattle.reading.proofs.Ranges.{of-range}
 use Rattle.reading.proofs.Tables.{first-rises, next-record}
+use Rattle.reading.proofs.FileKinds.{not-plain}
 use Rattle.rules.proofs.Fields.{Sizes, fit-declaration, fit-branch, fit-loop}
 use Rattle.format.proofs.Walking.{Facts, opened-facts, good-parts}
 use Rattle.format.proofs.Acts.{cells-fit, array-fits}
@@ -124,7 +125,7 @@ module _ (f : List ℕ) (e : Extent) (p : PassAt f e) where
     unfolding allowed
     other-kind =
         let after : first-record f (e .body) + declarations-in f (e .body) ≤ e .from + i = rw (← p .from-is, ← p .declarations-are) (omega arith) in
-        of-range 1 7 _ (rw (ne-eqb (kind-of f) 2 (λ z. omega (arith, p .declared)), ne-eqb (e .body) 0 (λ z. omega (arith, p .low)), le-ltb _ _ after) at (tested i l .1))
+        of-range 1 7 _ (rw (not-plain f (p .declared), ne-eqb (e .body) 0 (λ z. omega (arith, p .low)), le-ltb _ _ after) at (tested i l .1))
 
     pub other-array : fields-at f (e .from + i) .array < array-count f
     other-array = array-below f _ (tested i l .0) (facts .bounds .header .arrays .0) (other-kind .0) (other-kind .1)
@@ -144,7 +145,7 @@ module _ (f : List ℕ) (opens : Accepted ≡ opening f) (o : Opened) (e : o ≡
   pub readable : (b < 32) × (getD (o .«body_starts») b 0 ≤ getD (o .«body_starts») (b + 1) 0) × (getD (o .«body_starts») (b + 1) 0 ≤ 1024) × (getD (o .declarations) b 0 ≤ 1024)
   readable = let x = body-at f o e (opened-facts f opens .bounds) b h in (x .few, omega (arith, x .from-is, x .end-is), omega (arith, x .end-is, x .within, x .low), omega (arith, x .declarations-are, x .declared, x .within, x .low))
 
-  pub stands : kind-of f ≡ 1 → 1 ≤ b → (at : Extent) → at ≡ extent-of o b → PassAt f at
+  pub stands : is-declared f ≡ true → 1 ≤ b → (at : Extent) → at ≡ extent-of o b → PassAt f at
   stands k l at is =
       let x = body-at f o e (opened-facts f opens .bounds) b h in
       rw is (record { opens = opens; declared = k; place = x .inside .place; low = l; high = h; from-is = x .from-is; declarations-are = x .declarations-are; records-are = omega (arith, x .from-is, x .end-is) })

@@ -1,3 +1,4 @@
--- Laws of ranges and of tables.
+-- Laws of kinds of files, of ranges and of tables.
+pub mod FileKinds
 pub mod Ranges
 pub mod Tables

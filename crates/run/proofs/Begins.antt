@@ -3,15 +3,15 @@ use mathlib.Core.Path.{_≡_}
 use mathlib.Core.Bool.{true, false, not, _||_}
 use mathlib.Core.List.{List}
 use Prim.Native.Nat.{ℕ, _≤_, _<_}
-use lib.Dec.{ltb, eqb}
+use lib.Dec.{ltb}
 use lib.ListN.{length}
-use borrow.Author.Tests.{eq-eqb, ne-eqb, eqb-true, lt-ltb, ltb-false, not-false}
+use borrow.Author.Tests.{lt-ltb, ltb-false, not-false}
 use Rattle.model.specs.declared.Verdict.{Verdict}
 use Rattle.model.specs.declared.Verdict.the-variants.{Accepted, Refused}
 use Rattle.model.specs.Sides.{cell-count}
 use Rattle.model.proofs.Booleans.{or-none}
 use Rattle.model.specs.Rows.{answer-of}
-use Rattle.reading.specs.Bytes.{kind-of, layout-of}
+use Rattle.reading.specs.Bytes.{is-plain, layout-of}
 use Rattle.format.specs.Opening.{open-rows, opening}
 use Rattle.model.proofs.Rows.{holds, skips, skipped, empty, stop, pass, passed}
 use Rattle.run.specs.Running.{Lent, run-rows}
@@ -23,13 +23,13 @@ module _ (f choices : List ℕ) (b : Lent) where
   row-unopened v nay e = stop (open-rows f) _ v nay e
 
   module _ (e : Accepted ≡ opening f) where
-    pub row-declared : (kind-of f ≡ 2 → ⊥) → Refused 11 0 ≡ answer-of (run-rows f choices b)
+    pub row-declared : is-plain f ≡ false → Refused 11 0 ≡ answer-of (run-rows f choices b)
     unfolding run-rows opening
-    row-declared n = pass (open-rows f) _ (Refused 11 0) e (holds _ 11 0 _ (rw (ne-eqb (kind-of f) 2 n)))
+    row-declared n = pass (open-rows f) _ (Refused 11 0) e (holds _ 11 0 _ (rw n))
 
-    module _ (k : kind-of f ≡ 2) (n : ℕ) (q : n ≡ cell-count (layout-of f)) where
-      kind-row : not (eqb (kind-of f) 2) ≡ false
-      kind-row = rw (eq-eqb (kind-of f) 2 k)
+    module _ (k : is-plain f ≡ true) (n : ℕ) (q : n ≡ cell-count (layout-of f)) where
+      kind-row : not (is-plain f) ≡ false
+      kind-row = rw k
 
       pub row-short : (ltb (length (b .host)) n || ltb (length (b .card)) n || ltb (length (b .latest)) n) ≡ true → Refused 19 0 ≡ answer-of (run-rows f choices b)
       unfolding run-rows opening
@@ -47,7 +47,7 @@ module _ (f choices : List ℕ) (b : Lent) where
   -- what holds where no row does
   pub record Begins : Type 0 where
     pub opens : Accepted ≡ opening f
-    pub kind : kind-of f ≡ 2
+    pub plain : is-plain f ≡ true
     pub host-room : cell-count (layout-of f) ≤ length (b .host)
     pub card-room : cell-count (layout-of f) ≤ length (b .card)
     pub latest-room : cell-count (layout-of f) ≤ length (b .latest)
@@ -65,7 +65,7 @@ module _ (f choices : List ℕ) (b : Lent) where
       let u = or-none (ltb (length (b .host)) n) _ (o .0) in
       record {
         opens = p .0;
-        kind = eqb-true _ _ (not-false _ (k .0));
+        plain = not-false _ (k .0);
         host-room = ltb-false _ _ (u .0);
         card-room = ltb-false _ _ (u .1);
         latest-room = ltb-false _ _ (o .1);

@@ -11,7 +11,7 @@ use lib.ListN.{getD}
 use borrow.Author.Tests.{eq-eqb, ne-eqb}
 use Rattle.model.specs.Blocks.{size}
 use Rattle.reading.specs.declared.Fields.{Fields}
-use Rattle.reading.specs.Bytes.{kind-of, body-count, records-in, sizes-of, first-record, record-count, bodies-at, fields-at}
+use Rattle.reading.specs.Bytes.{is-declared, body-count, records-in, sizes-of, first-record, record-count, bodies-at, fields-at}
 use Rattle.reading.specs.Inner.Places.{Inside}
 use Rattle.contents.specs.declared.Opened.{Opened}
 use Rattle.contents.specs.Inner.Findings.{found}
@@ -19,6 +19,7 @@ use Rattle.contents.proofs.Found.{body-start}
 use Rattle.rules.specs.Rules.{allowed}
 use Rattle.reading.proofs.Ranges.{of-range}
 use Rattle.reading.proofs.Tables.{first-zero, first-rises, next-record}
+use Rattle.reading.proofs.FileKinds.{not-plain}
 use Rattle.format.proofs.Walking.{Facts, opened-facts}
 use Rattle.format.proofs.Trees.{body0-good}
 use Rattle.sizes.specs.Inner.Sizes.{DeclaredFile, called, record-size, place, PassSizes}
@@ -63,8 +64,8 @@ module _ (f : List ℕ) (file : DeclaredFile f) where
   abbrev w : Facts f
   w = opened-facts f (file .opened)
 
-  abbrev k : kind-of f ≡ 1
-  k = file .kind
+  abbrev k : is-declared f ≡ true
+  k = file .declared
 
   abbrev end : ℕ
   end = records-in f 0
@@ -77,7 +78,7 @@ module _ (f : List ℕ) (file : DeclaredFile f) where
 
   pub body0-kind : (r : ℕ) → allowed f 0 r (fields-at f r) ≡ true → (6 ≤ fields-at f r .kind) × (fields-at f r .kind ≤ 8)
   unfolding allowed
-  body0-kind r e = of-range 6 8 _ (rw (ne-eqb (kind-of f) 2 (λ z. omega arith)) at e)
+  body0-kind r e = of-range 6 8 _ (rw (not-plain f k) at e)
 
   -- record r of body 0
   pub body0-tested : (r : ℕ) → r < end → Tested f 0 end r

@@ -1,5 +1,6 @@
 -- What stands for a call of a pass: what its declarations give, and its other records.
 use mathlib.Core.Path.{_≡_, refl, ap, _∙_}
+use mathlib.Core.Bool.{true}
 use mathlib.Core.List.{List, _++_, append-assoc}
 use Prim.Native.Nat.{ℕ, suc, _+_, _-_, _≤_, _<_}
 use native.Nat.{ℕᴺ-discrete}
@@ -8,7 +9,7 @@ use native.Mathlib.Omega.{arith}
 use lib.ListN.{length, length-append}
 use borrow.Author.Tests.{ne-eqb}
 use Rattle.model.specs.Blocks.{size}
-use Rattle.reading.specs.Bytes.{kind-of, body-count, table, records-in, declarations-in, sizes-of, first-record, fields-at, first-arm, second-arm}
+use Rattle.reading.specs.Bytes.{is-declared, body-count, table, records-in, declarations-in, sizes-of, first-record, fields-at, first-arm, second-arm}
 use Rattle.contents.specs.declared.Opened.{Opened}
 use Rattle.contents.specs.Inner.Findings.{found}
 use Rattle.passes.specs.declared.Extent.{Extent}
@@ -33,8 +34,8 @@ module _ (f : List ℕ) (file : DeclaredFile f) (b : ℕ) (p : 1 ≤ b) (l : b <
   abbrev w : Facts f
   w = opened-facts f (file .opened)
 
-  abbrev k : kind-of f ≡ 1
-  k = file .kind
+  abbrev k : is-declared f ≡ true
+  k = file .declared
 
   abbrev until : ℕ
   until = first-record f b + declarations-in f b
@@ -94,7 +95,7 @@ module _ (f : List ℕ) (file : DeclaredFile f) (b : ℕ) (p : 1 ≤ b) (l : b <
 -- a pass where it stands, by what opening found
 module _ (f : List ℕ) (e : Extent) (p : PassAt f e) where
   pub called-at : size (called f (e .body)) ≡ size (declared-from f (e .from) (e .declarations)) + (e .records - e .declarations)
-  called-at = rw (p .from-is, p .declarations-are, p .records-are) (called-size f (record { opened = p .opens; kind = p .declared }) (e .body) (p .low) (p .high) ∙ omega arith)
+  called-at = rw (p .from-is, p .declarations-are, p .records-are) (called-size f (record { opened = p .opens; declared = p .declared }) (e .body) (p .low) (p .high) ∙ omega arith)
 
 pub pass-stands : (f : List ℕ) → DeclaredFile f → (o : Opened) → o ≡ found f → (b : ℕ) → 1 ≤ b → b < body-count f → (e : Extent) → e ≡ extent-of o b → PassAt f e
-pass-stands f file o w b l h e is = stands f (file .opened) o w b h (file .kind) l e is
+pass-stands f file o w b l h e is = stands f (file .opened) o w b h (file .declared) l e is

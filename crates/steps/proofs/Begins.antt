@@ -1,5 +1,6 @@
 -- Where the machine stands at the start.
 use mathlib.Core.Path.{_≡_, refl, sym, ap, _∙_}
+use mathlib.Core.Bool.{true}
 use mathlib.Core.List.{List}
 use Prim.Native.Nat.{ℕ, _+_, _≤_, _<_}
 use native.Nat.{ℕᴺ-discrete}
@@ -11,7 +12,7 @@ use Rattle.model.specs.Sides.{cell-count}
 use Rattle.model.specs.Runs.{begin, here}
 use Rattle.model.proofs.Stamps.{past}
 use Rattle.model.proofs.Through.{then-done}
-use Rattle.reading.specs.Bytes.{kind-of, layout-of, array-count, record-count, lengths-of}
+use Rattle.reading.specs.Bytes.{is-plain, layout-of, array-count, record-count, lengths-of}
 use Rattle.contents.specs.declared.Opened.{Opened}
 use Rattle.contents.specs.Inner.Findings.{found}
 use Rattle.format.specs.Plans.{plan-of}
@@ -28,7 +29,7 @@ use Rattle.memories.proofs.Masks.{none}
 use Rattle.known.proofs.Sets.{start-known}
 
 -- the start
-module _ (f choices : List ℕ) (facts : Facts f) (kind : kind-of f ≡ 2) where
+module _ (f choices : List ℕ) (facts : Facts f) (kind : is-plain f ≡ true) where
   start-left : (room : List ℕ) → plan-of f .body ≡ left-of f (spot (started (record-count f)) room)
   unfolding left-of rest-of
   start-left room = plain-body f facts ∙ sym (then-done (block-between f 0 (record-count f)))
@@ -97,7 +98,7 @@ module _ (f : List ℕ) (o : Opened) (choices own others latest : List ℕ) (r :
   ready-facts = opened-facts f (r .opens)
 
   pub ready-plain : (bodies : ℕ) → bodies ≡ o .offset → Plain f bodies
-  ready-plain bodies e = record { opens = r .opens; kind = r .kind; place = e ∙ ap (λ (x : Opened). x .offset) ready-found }
+  ready-plain bodies e = record { opens = r .opens; plain = r .plain; place = e ∙ ap (λ (x : Opened). x .offset) ready-found }
 
   pub ready-starts : Starts f (o .«array_starts»)
   ready-starts = record { first = array-start f o ready-found (ready-facts .bounds) }

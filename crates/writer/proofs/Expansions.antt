@@ -1,5 +1,6 @@
 -- The expansion is what stands for the records of body 0, one after the other.
 use mathlib.Core.Path.{_≡_, refl, sym, ap, _∙_}
+use mathlib.Core.Bool.{true}
 use mathlib.Core.List.{List, _++_, append-assoc}
 use Prim.Native.Nat.{ℕ, zero, suc, _+_, _-_, _≤_, _<_}
 use native.Nat.{ℕᴺ-discrete}
@@ -11,7 +12,7 @@ use Rattle.model.specs.Blocks.{Block, size, _then_, numbered}
 use Rattle.model.specs.Judging.{Pass, pass-of}
 use Rattle.model.specs.Expanding.{expand}
 use Rattle.model.specs.Inner.Declared.{no-pass, declared}
-use Rattle.reading.specs.Bytes.{kind-of, body-count, records-in, fields-at, second-arm}
+use Rattle.reading.specs.Bytes.{is-declared, body-count, records-in, fields-at, second-arm}
 use Rattle.format.specs.Plans.{pass-at, declared-plan-of}
 use Rattle.files.specs.Inner.Short.{block-fields}
 use Rattle.format.specs.Inner.Walks.{body0-between}
@@ -35,8 +36,8 @@ module _ (f : List ℕ) (file : DeclaredFile f) where
   abbrev w : Facts f
   w = opened-facts f (file .opened)
 
-  abbrev k : kind-of f ≡ 1
-  k = file .kind
+  abbrev k : is-declared f ≡ true
+  k = file .declared
 
   abbrev passes : List Pass
   passes = declared-plan-of f .passes

@@ -1,12 +1,13 @@
 -- What stands for a call of a pass, byte for byte.
 use mathlib.Core.Path.{_≡_, ap, _∙_}
+use mathlib.Core.Bool.{true}
 use mathlib.Core.List.{List, _++_}
 use Prim.Native.Nat.{ℕ, suc, _+_, _*_, _-_, _≤_, _<_}
 use native.Mathlib.Omega.{arith}
 use lib.ListN.{length, take, drop}
 use borrow.Rule.Slice.PartMut.{midOf, putMid}
 use Rattle.model.specs.Blocks.{size}
-use Rattle.reading.specs.Bytes.{byte-at, kind-of, body-count, records-in, declarations-in, sizes-of, first-record, record-count, bodies-at}
+use Rattle.reading.specs.Bytes.{is-declared, byte-at, body-count, records-in, declarations-in, sizes-of, first-record, record-count, bodies-at}
 use Rattle.files.specs.Inner.Short.{block-fields}
 use Rattle.files.specs.Inner.Given.{declared-from}
 use Rattle.format.specs.Inner.Walks.{block-between}
@@ -27,8 +28,8 @@ module _ (f : List ℕ) (file : DeclaredFile f) (b : ℕ) (p : 1 ≤ b) (l : b <
   abbrev w : Facts f
   w = opened-facts f (file .opened)
 
-  abbrev k : kind-of f ≡ 1
-  k = file .kind
+  abbrev k : is-declared f ≡ true
+  k = file .declared
 
   abbrev until : ℕ
   until = first-record f b + declarations-in f b
@@ -63,4 +64,4 @@ module _ (f : List ℕ) (e : Extent) (p : PassAt f e) where
       → xs ≡ over (bytes-of (block-fields (declared-from f (e .from) (e .declarations)))) old
       → ys ≡ over (take (e .bodies + 8 * (e .from + e .records) - (e .bodies + 8 * (e .from + e .declarations))) (drop (e .bodies + 8 * (e .from + e .declarations)) f)) (midOf (8 * made) (length xs - 8 * made) xs)
       → putMid (8 * made) (length xs - 8 * made) xs ys ≡ over (bytes-of (block-fields (called f (e .body)))) old
-  call-written small made old xs ys m h x y = called-written f (record { opened = p .opens; kind = p .declared }) (e .body) (p .low) (p .high) small (e .from) (e .from + e .records) (e .declarations) made (e .bodies) old xs ys (p .from-is) (rw (p .from-is, p .records-are)) (p .declarations-are) (p .place) m h x y
+  call-written small made old xs ys m h x y = called-written f (record { opened = p .opens; declared = p .declared }) (e .body) (p .low) (p .high) small (e .from) (e .from + e .records) (e .declarations) made (e .bodies) old xs ys (p .from-is) (rw (p .from-is, p .records-are)) (p .declarations-are) (p .place) m h x y

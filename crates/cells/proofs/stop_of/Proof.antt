@@ -36,7 +36,7 @@ block-requires c κs =
       },
       omega arith,
       omega (arith, p .1),
-      rw (p .1) (plain-walk _ (opened-facts _ (p .0 .opens)) (p .0 .kind)),
+      rw (p .1) (plain-walk _ (opened-facts _ (p .0 .opens)) (p .0 .plain)),
     )
 
 same-length : tie.Need-same-length

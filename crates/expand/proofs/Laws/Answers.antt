@@ -4,7 +4,7 @@ use mathlib.Core.List.{List}
 use Prim.Native.Nat.{ℕ, _<_, _≤_}
 use native.Mathlib.Omega.{arith}
 use lib.ListN.{length}
-use borrow.Author.Tests.{lt-ltb, le-ltb, eqb-true, not-false}
+use borrow.Author.Tests.{lt-ltb, le-ltb, not-false}
 use Rattle.model.specs.declared.Verdict.{Verdict}
 use Rattle.model.specs.declared.Verdict.the-variants.{Accepted, Refused}
 use Rattle.model.specs.Blocks.{size}
@@ -25,7 +25,7 @@ module _ (f : List ℕ) where
   unfolding judged judge-rows opening
   accepted-file e =
       let p = passed (open-rows f) _ e in
-      record { opened = p .0; kind = eqb-true _ _ (not-false _ (skipped _ _ _ _ (p .1) .0)) }
+      record { opened = p .0; declared = not-false _ (skipped _ _ _ _ (p .1) .0) }
 
   pub accepted-found : (o : Opened) → o ≡ opened f → Accepted ≡ judged f → o ≡ found f
   accepted-found o e a = found-is f o e (verdict-is f o e ∙ sym (accepted-file a .opened))

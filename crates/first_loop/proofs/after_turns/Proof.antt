@@ -25,7 +25,7 @@ plain c =
     let d = c .before .before .before .before in
     let e = finds d in
     let s = some-record _ _ _ (ap (λ x. x .kind) e) (ap (λ x. x .records) e) (c .before .if1 .left) in
-    (record { opens = sym (d .enum-told .given .1) ∙ verdict-is _ _ (d .before .before .«open» .ensures); kind = s .0; place = ap (λ x. x .offset) e }, s .1)
+    (record { opens = sym (d .enum-told .given .1) ∙ verdict-is _ _ (d .before .before .«open» .ensures); plain = s .0; place = ap (λ x. x .offset) e }, s .1)
 
 open-requires : tie.Need-open-requires
 open-requires c κs = search needs
@@ -83,7 +83,7 @@ returns-4 : tie.Need-returns-4
 returns-4 c =
     let x = c .before .before .before .before .before .before .before .before .before .record-at .ensures in
     let p = plain (c .before .before .before .before .before .before .before .before .before .before) in
-    after-some _ _ _ (record { opens = p .0 .opens; plain = p .0 .kind; one = p .1; loop = ap (λ y. y .kind) (sym x) ∙ c .before .before .before .before .before .before .before .if2 .left }) refl (c .before .before .turned-with .ensures)
+    after-some _ _ _ (record { opens = p .0 .opens; plain = p .0 .plain; one = p .1; loop = ap (λ y. y .kind) (sym x) ∙ c .before .before .before .before .before .before .before .if2 .left }) refl (c .before .before .turned-with .ensures)
 
 pub after-turns-spec : {M : Type 1} → statement M
 after-turns-spec =

@@ -7,7 +7,7 @@ use mathlib.Core.Bool.{true, false}
 use mathlib.Core.List.{List}
 use Rattle.model.specs.declared.Verdict.the-variants.{Accepted}
 use Rattle.model.specs.Inner.Stops.{Goes, Stops}
-use Rattle.reading.specs.Bytes.{kind-of, layout-of, record-count, fields-at}
+use Rattle.reading.specs.Bytes.{is-plain, layout-of, record-count, fields-at}
 use Rattle.format.specs.Opening.{opening}
 use Rattle.statuses.specs.declared.acts.Found.{Found}
 use Rattle.statuses.specs.Inner.Sets.{at-start}
@@ -19,7 +19,7 @@ use Rattle.turns.specs.Inner.Powers.{Power, StopsWithin}
 -- the file opens as a plain plan whose record 0 is a loop
 pub record Loops (f : List ℕ) : Type 0 where
   pub opens : Accepted ≡ opening f
-  pub plain : kind-of f ≡ 2
+  pub plain : is-plain f ≡ true
   pub one : 0 < record-count f
   pub loop : fields-at f 0 .kind ≡ 7
 

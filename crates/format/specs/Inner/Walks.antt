@@ -1,5 +1,6 @@
 -- No promise of an entry point rests on this text: what those who walk the records of a file that opens ask of it.
 use mathlib.Core.Path.{_≡_}
+use mathlib.Core.Bool.{true}
 use mathlib.Core.List.{List}
 use Prim.Native.Nat.{ℕ, _+_, _≤_}
 use lib.ListN.{getD}
@@ -9,7 +10,7 @@ use Rattle.model.specs.Records.{Action}
 use Rattle.model.specs.Blocks.{Block}
 use Rattle.model.specs.Rows.{answer-of}
 use Rattle.reading.specs.declared.Fields.{Fields}
-use Rattle.reading.specs.Bytes.{kind-of, array-count, layout-of, bodies-at, fields-at}
+use Rattle.reading.specs.Bytes.{is-plain, array-count, layout-of, bodies-at, fields-at}
 use Rattle.records.specs.Records.{block-rows}
 use Rattle.format.specs.Opening.{opening}
 use Rattle.format.specs.Plans.{action-of, block-of}
@@ -17,7 +18,7 @@ use Rattle.format.specs.Plans.{action-of, block-of}
 -- the file opens and its plan is plain; `bodies` is where its bodies begin
 pub record Plain (f : List ℕ) (bodies : ℕ) : Type 0 where
   pub opens : Accepted ≡ opening f
-  pub kind : kind-of f ≡ 2
+  pub plain : is-plain f ≡ true
   pub place : bodies ≡ bodies-at f
 
 -- the first cell of each array, and after the last array the number of cells

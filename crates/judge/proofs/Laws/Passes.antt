@@ -1,14 +1,14 @@
 -- The places of the judge's table one after the other: of one pass, of the passes, of the whole.
 use mathlib.Core.Path.{_≡_}
+use mathlib.Core.Bool.{false, true}
 use mathlib.Core.List.{List}
 use Prim.Native.Nat.{ℕ, zero, suc, _+_, _-_, _≤_, _<_}
 use native.Mathlib.Decide.{decLt}
 use native.Mathlib.Omega.{arith}
-use borrow.Author.Tests.{eq-eqb, ne-eqb}
 use Rattle.model.specs.declared.Verdict.{Verdict}
 use Rattle.model.specs.declared.Verdict.the-variants.{Accepted, Refused}
 use Rattle.model.specs.Rows.{Row, answer-of, all-rows}
-use Rattle.reading.specs.Bytes.{kind-of, body-count, records-in, declarations-in}
+use Rattle.reading.specs.Bytes.{is-declared, body-count, records-in, declarations-in}
 use Rattle.format.specs.Opening.{open-rows, opening}
 use Rattle.model.proofs.Rows.{holds, skips, stop, pass, each-more, each-stop}
 use Rattle.passes.specs.declared.Extent.{Extent}
@@ -61,10 +61,10 @@ module _ (f : List ℕ) where
   judged-opening v nay e = stop (open-rows f) _ v nay e
 
   module _ (a : Accepted ≡ opening f) where
-    pub judged-plain : (kind-of f ≡ 1 → ⊥) → Refused 11 0 ≡ judged f
+    pub judged-plain : is-declared f ≡ false → Refused 11 0 ≡ judged f
     unfolding judged judge-rows opening
-    judged-plain k = pass (open-rows f) _ _ a (holds _ _ _ _ (rw (ne-eqb (kind-of f) 1 k)))
+    judged-plain k = pass (open-rows f) _ _ a (holds _ _ _ _ (rw k))
 
-    pub judged-passes : kind-of f ≡ 1 → (v : Verdict) → v ≡ answer-of (passes-rows (body-count f - 1)) → v ≡ judged f
+    pub judged-passes : is-declared f ≡ true → (v : Verdict) → v ≡ answer-of (passes-rows (body-count f - 1)) → v ≡ judged f
     unfolding judged judge-rows opening
-    judged-passes k v e = pass (open-rows f) _ v a (skips _ _ _ _ v (rw (eq-eqb (kind-of f) 1 k)) e)
+    judged-passes k v e = pass (open-rows f) _ v a (skips _ _ _ _ v (rw k) e)

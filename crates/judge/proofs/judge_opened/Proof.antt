@@ -1,7 +1,9 @@
 -- `judge::judge_opened` answers as the definition: opening's answer, 11, then the passes.
 use mathlib.Core.Path.{_≡_, sym, ap, _∙_}
+use mathlib.Core.Bool.{true}
+use borrow.Author.Tests.{eq-eqb, ne-eqb}
 use Rattle.model.specs.declared.Verdict.the-variants.{Accepted}
-use Rattle.reading.specs.Bytes.{kind-of}
+use Rattle.reading.specs.Bytes.{is-declared}
 use Rattle.format.specs.Opening.{opening}
 use Rattle.contents.specs.Inner.Findings.{found}
 use Rattle.model.proofs.Rows.{turned}
@@ -19,8 +21,8 @@ finds : (c : tie.After-enum-told) → c .before .before .before .args .o ≡ fou
 finds c = found-is _ _ (c .before .before .before .pre) (c .enum-told .given .1)
 
 -- and it is a declared plan
-declared : (c : tie.Else1) → kind-of (c .before .before .before .before .before .args .plan .now) ≡ 1
-declared c = sym (ap (λ o. o .kind) (finds (c .before .before))) ∙ c .if1 .left
+declared : (c : tie.Else1) → is-declared (c .before .before .before .before .before .args .plan .now) ≡ true
+declared c = eq-eqb _ 1 (sym (ap (λ o. o .kind) (finds (c .before .before))) ∙ c .if1 .left)
 
 enum-told : tie.Need-enum-told
 enum-told c = search needs
@@ -29,7 +31,7 @@ returns : tie.Need-returns
 returns c = judged-opening _ _ (turned _ (c .match .keys2)) (verdict-is _ _ (c .before .before .pre))
 
 returns-2 : tie.Need-returns-2
-returns-2 c = judged-plain _ (opens (c .before .before)) (λ k. c .if1 .taken (ap (λ o. o .kind) (finds (c .before .before)) ∙ k))
+returns-2 c = judged-plain _ (opens (c .before .before)) (ne-eqb _ 1 (λ k. c .if1 .taken (ap (λ o. o .kind) (finds (c .before .before)) ∙ k)))
 
 all-passes-requires : tie.Need-all-passes-requires
 all-passes-requires c κs = (opens (c .before .before), declared c, finds (c .before .before))

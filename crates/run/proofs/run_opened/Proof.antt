@@ -39,7 +39,7 @@ returns c = runs-refused _ _ _ _ (turned _ (c .before .match .keys2)) (c .before
 run-to-end-requires : tie.Need-run-to-end-requires
 run-to-end-requires c κs =
     let b = begins _ _ _ (accepted (c .before .before .before)) in
-    record { found = c .before .before .before .before .before .before .before .before .before .before .before .before .before .before .pre; opens = b .opens; kind = b .kind; own-room = b .host-room; others-room = b .card-room; latest-room = b .latest-room; few = b .few }
+    record { found = c .before .before .before .before .before .before .before .before .before .before .before .before .before .before .pre; opens = b .opens; plain = b .plain; own-room = b .host-room; others-room = b .card-room; latest-room = b .latest-room; few = b .few }
 
 end-of-requires : tie.Need-end-of-requires
 end-of-requires c κs = let w = c .before .before .before .before .before .before .before .before .run-to-end .ensures .0 .reaches .stands in omega (arith, w .used, w .many)

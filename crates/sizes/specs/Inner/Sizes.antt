@@ -1,7 +1,7 @@
 -- No promise of an entry point rests on this text: how many records the expansion has for each record of body 0.
 use Prim.Native.Nat.{ℕ, zero, suc, _+_, _≤_, _<_}
 use mathlib.Core.Path.{_≡_}
-use mathlib.Core.Bool.{cond}
+use mathlib.Core.Bool.{true, cond}
 use mathlib.Core.List.{List}
 use lib.Dec.{eqb}
 use lib.ListN.{getD}
@@ -9,14 +9,14 @@ use Rattle.model.specs.declared.Verdict.the-variants.{Accepted}
 use Rattle.model.specs.Records.{Action}
 use Rattle.model.specs.Blocks.{Block, size}
 use Rattle.model.specs.Inner.Declared.{declared}
-use Rattle.reading.specs.Bytes.{kind-of, body-count, records-in, fields-at}
+use Rattle.reading.specs.Bytes.{is-declared, body-count, records-in, fields-at}
 use Rattle.format.specs.Opening.{opening}
 use Rattle.format.specs.Plans.{pass-at}
 
 -- a file that opens as a declared plan
 pub record DeclaredFile (f : List ℕ) : Type 0 where
   pub opened : Accepted ≡ opening f
-  pub kind : kind-of f ≡ 1
+  pub declared : is-declared f ≡ true
 
 -- what stands for a call of body b: what the pass's declarations give, and then its other records
 unfoldable pub called : List ℕ → ℕ → Block Action

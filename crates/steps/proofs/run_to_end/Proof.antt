@@ -47,7 +47,7 @@ run-steps-requires c κs =
     let w = c .before .before .before .before .before .before .before .before .before .before .before .before .write-start .ensures in
     let r = c .before .before .before .before .before .before .before .before .before .before .before .before .before .before .before .before .before .before .put-starts .ensures in
     rw (c .before .before .before .before .first-machine .ensures, ap (λ x. x .records) e, ap (λ x. x .arrays) e)
-    (reaches-start _ _ (ready-facts _ _ _ _ _ _ a) (a .kind) _ n _ _ _ _ _ _ (omega (arith, a .own-room)) (omega (arith, a .others-room)) (omega (arith, a .latest-room)) (w .0) (w .1 .0) (w .1 .1) _ (ready-plain _ _ _ _ _ _ a _ refl) (a .few) _ (r .size) (ready-front _ _ _ _ _ _ a _ r))
+    (reaches-start _ _ (ready-facts _ _ _ _ _ _ a) (a .plain) _ n _ _ _ _ _ _ (omega (arith, a .own-room)) (omega (arith, a .others-room)) (omega (arith, a .latest-room)) (w .0) (w .1 .0) (w .1 .1) _ (ready-plain _ _ _ _ _ _ a _ refl) (a .few) _ (r .size) (ready-front _ _ _ _ _ _ a _ r))
 
 same-length : tie.Need-same-length
 same-length c = c .before .before .before .before .before .before .before .run-steps .ensures .2 .size ∙ c .before .before .before .before .before .before .before .before .before .before .before .before .before .before .before .before .before .before .before .before .write-start .ensures .0 .size

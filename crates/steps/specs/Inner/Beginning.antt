@@ -8,7 +8,7 @@ use Rattle.model.specs.declared.Verdict.the-variants.{Accepted}
 use Rattle.model.specs.declared.Tally.{Tally}
 use Rattle.model.specs.Sides.{cell-count}
 use Rattle.contents.specs.declared.Opened.{Opened}
-use Rattle.reading.specs.Bytes.{kind-of, layout-of}
+use Rattle.reading.specs.Bytes.{is-plain, layout-of}
 use Rattle.format.specs.Opening.{opening, opened}
 use Rattle.memories.specs.Flags.{mask}
 use Rattle.known.specs.Inner.Knowing.{at-start}
@@ -45,7 +45,7 @@ pub record ReachesEnd (f choices : List ℕ) (m : Machine) (own others latest : 
 pub record Ready (f : List ℕ) (o : Opened) (choices own others latest : List ℕ) : Type 0 where
   pub found : o ≡ opened f
   pub opens : Accepted ≡ opening f
-  pub kind : kind-of f ≡ 2
+  pub plain : is-plain f ≡ true
   pub own-room : cell-count (layout-of f) ≤ length own
   pub others-room : cell-count (layout-of f) ≤ length others
   pub latest-room : cell-count (layout-of f) ≤ length latest
