@@ -18,29 +18,30 @@ extern "C" {
 #endif
 
 /* Opens a plan of any bytes. The answer, packed: number (0 accepted) in bits 0 to 15, place or record in 16 to 31,
-   cell in 32 to 47, the file's kind (0 if it does not open) in 48 to 55. All other bits are 0. */
+   cell in 32 to 47, the file's kind (0 if it does not open) in 48 to 55. All other bits are 0. The numbers of a file that is no plan are 1 to 10, and 26
+   where fixed loops, one in another, would turn more than 4,096 times in all. */
 uint64_t plan_open(const uint8_t *plan, size_t plan_length);
 
-/* Where the records of a body stand in the plan: number (0 accepted; 1 to 10, 25) in bits 0 to 15, the place of the body's first byte in 16 to 31,
+/* Where the records of a body stand in the plan: number (0 accepted; 1 to 10, 25, 26) in bits 0 to 15, the place of the body's first byte in 16 to 31,
    the number of its bytes in 32 to 47. At a refusal bits 16 to 47 are 0, whatever the number's place is: a refused view is empty. */
 uint64_t plan_body_view(const uint8_t *plan, size_t plan_length, uint64_t body);
 
-/* Checks a plain plan over all its runs: 0 accepted; 18 with the record and the cell where a run may stop; 1 to 11. Packed as by plan_open. */
+/* Checks a plain plan over all its runs: 0 accepted; 18 with the record and the cell where a run may stop; 1 to 11, 26. Packed as by plan_open. */
 uint64_t plan_check(const uint8_t *plan, size_t plan_length);
 
-/* Judges a declared plan: 0 accepted; 1 to 15 with the place. Packed as by plan_open. */
+/* Judges a declared plan: 0 accepted; 1 to 15 and 26 with the place. Packed as by plan_open. */
 uint64_t plan_judge(const uint8_t *plan, size_t plan_length);
 
-/* Expands a declared plan into the file of a plain one: 0 accepted, the file stands at the front of the output; 1 to 17 with the place, and the
-   output is as it was. Bytes past the file are not touched. Packed as by plan_open. */
+/* Expands a declared plan into the file of a plain one: 0 accepted, the file stands at the front of the output; 1 to 17 and 26 with the place (26 of the
+   expansion, tested after 16: the call), and the output is as it was. Bytes past the file are not touched. Packed as by plan_open. */
 uint64_t plan_expand(const uint8_t *plan, size_t plan_length, uint8_t *out, size_t out_length);
 
-/* How long an output plan_expand needs for this plan: number (0 accepted; 1 to 16, as by plan_expand with an output that is long enough) in bits 0 to 15,
+/* How long an output plan_expand needs for this plan: number (0 accepted; 1 to 16 and 26, as by plan_expand with an output that is long enough) in bits 0 to 15,
    at 0 the length of the expansion's file in 16 to 47 (at most 8,266), at a refusal its place there, the file's kind in 48 to 55. */
 uint64_t plan_expansion_length(const uint8_t *plan, size_t plan_length);
 
 /* Runs a plain plan on lent memories and choices: 0 done; 21 with the record and its lowest unmet cell; 22 with the record whose test finds no choice;
-   1 to 11, 19, 20, and then nothing is changed. `tally` points to three numbers: read records, write records, cells moved. `figures` points to five numbers,
+   1 to 11, 19, 20, 26, and then nothing is changed. `tally` points to three numbers: read records, write records, cells moved. `figures` points to five numbers,
    written at done only: choices used, host flags, card flags (bit i is array i), arrays current on the host, on the card. Cells past the plan's are not
    touched. Packed as by plan_open. */
 uint64_t plan_run(const uint8_t *plan, size_t plan_length, uint64_t *host, size_t host_length, uint64_t *card, size_t card_length, uint64_t *latest,

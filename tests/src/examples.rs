@@ -63,6 +63,16 @@ pub fn old_way() -> Vec<Step> {
 /// that reads on the card.
 pub const OLD_WAY_CHOICES: [u8; 4] = [1, 1, 1, 0];
 
+/// A declared plan of one grid of eight cells: the card clears it in so many turns
+/// of a fixed loop, or in a free one, and the host reads it.
+pub fn fill(turns: Option<u16>) -> Draft {
+    let layers = vec![write(CARD, 0, 0, 4), write(CARD, 0, 4, 8)];
+    let cleared = turns.map_or(Step::Loop(layers.clone()), |turns| Step::Fixed(turns, layers));
+    let clear = Pass { declarations: vec![declare(W, CARD, 0)], steps: vec![cleared] };
+    let look = Pass { declarations: vec![declare(R, HOST, 0)], steps: vec![read(HOST, 0, 0, 8)] };
+    declared_draft(&[8], &[Step::Fixed(2, vec![call(1), call(2)])], &[clear, look])
+}
+
 /// Each file of `examples/` by its name.
 pub fn examples() -> Vec<(String, Vec<u8>)> {
     let router = encode(&router());
@@ -78,6 +88,8 @@ pub fn examples() -> Vec<(String, Vec<u8>)> {
     files.push(("router-expanded.plan".into(), expanded));
     files.push(("router.choices".into(), ROUTER_CHOICES.into()));
     files.push(("router-short.choices".into(), ROUTER_CHOICES[..3].into()));
+    files.push(("fill.plan".into(), encode(&fill(Some(3)))));
+    files.push(("fill-free.plan".into(), encode(&fill(None))));
     files.push(("old-way.plan".into(), encode(&Draft::plain(&[1], &old_way()))));
     files.push(("old-way.choices".into(), OLD_WAY_CHOICES.into()));
     files

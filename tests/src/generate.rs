@@ -6,6 +6,7 @@ mod cases;
 mod damage;
 mod declared;
 mod every;
+mod fixed;
 mod plain;
 mod rng;
 
@@ -13,6 +14,7 @@ pub use cases::*;
 pub use damage::*;
 pub use declared::*;
 pub use every::*;
+pub use fixed::*;
 pub use plain::*;
 pub use rng::Rng;
 
@@ -55,6 +57,8 @@ pub enum Step {
     Act(Raw),
     Branch(Vec<Step>, Vec<Step>),
     Loop(Vec<Step>),
+    /// A fixed loop with its count.
+    Fixed(u16, Vec<Step>),
 }
 
 pub fn flatten(steps: &[Step]) -> Vec<Raw> {
@@ -71,6 +75,11 @@ pub fn flatten(steps: &[Step]) -> Vec<Raw> {
             Step::Loop(arm) => {
                 let arm = flatten(arm);
                 records.push(raw(7, 0, 0, arm.len() as u16, 0));
+                records.extend(arm);
+            }
+            Step::Fixed(turns, arm) => {
+                let arm = flatten(arm);
+                records.push(raw(9, 0, 0, arm.len() as u16, *turns));
                 records.extend(arm);
             }
         }

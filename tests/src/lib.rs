@@ -1,8 +1,8 @@
 //! The independent walker for plans of two memories, the generator of plan
 //! files, and the wrappers over the proved library.
 //!
-//! The walker is written from document 01 alone and shares nothing with the
-//! library it is matched against.
+//! The walker is written from documents 01 and 02 alone and shares nothing with
+//! the library it is matched against.
 
 #[cfg(feature = "archive")]
 pub mod archive;

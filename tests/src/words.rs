@@ -26,6 +26,7 @@ pub fn refusal(number: u16, place: usize) -> String {
         23 => "first not below end, or end past the shortest memory".into(),
         24 => "neither side wholly current".into(),
         25 => "no such body".into(),
+        26 => format!("along some nesting the product of the counts passes 4,096, record {place}"),
         38 => "n above 24".into(),
         _ => match NUMBERS[number as usize - 1] {
             (words, "") => words.into(),

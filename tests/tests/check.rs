@@ -69,6 +69,53 @@ fn every_small_plan() {
     assert!(counts[&0] > 10_000 && counts[&18] > 10_000);
 }
 
+/// The same with fixed loops of one to three turns, up to three records over two
+/// cells in one array.
+#[test]
+fn every_small_plan_with_fixed_loops() {
+    let mut counts = Counts::new();
+    for (arrays, records) in [(&[1][..], 4), (&[2][..], 3)] {
+        for draft in every_plan_fixed(arrays, &[1, 2, 3], records) {
+            if has_fixed(&draft.bodies[0].records) {
+                match_brute(&draft, &mut counts);
+            }
+        }
+    }
+    println!("{counts:?}");
+    assert!(counts[&0] > 10_000 && counts[&18] > 10_000);
+}
+
+/// Fixed loops of any count, alone and in one another, and files that say 26.
+#[test]
+fn seeded_fixed_loops() {
+    let mut rng = Rng::new(66);
+    let mut counts = Counts::new();
+    for round in 0..12_000 {
+        let draft = match round % 6 {
+            0 => turning_fixed(&mut rng),
+            1 => late_fixed(&mut rng),
+            2 => period_two_fixed(&mut rng),
+            3 => small_fixed(&mut rng),
+            4 => {
+                let (product, parts) = (rng.pick(&[24, 4095, 4096]), rng.between(2, 12));
+                product_plain(&mut rng, product, parts)
+            }
+            _ => {
+                let shape = Shape::medium(&mut rng);
+                let mut draft = plain(&mut rng, &shape);
+                fix_loops(&mut rng, &mut draft, 70, &[1, 2, 3, 100, 4096], 4096);
+                draft
+            }
+        };
+        match_check(&encode(&mended(&mut rng, draft, 40)), &mut counts);
+        match_check(&any_fixed_file(&mut rng), &mut counts);
+    }
+    println!("{counts:?}");
+    for number in [0, 8, 9, 10, 11, 18, 26] {
+        assert!(counts.get(&number).is_some_and(|&n| n >= 100), "number {number} is too rare");
+    }
+}
+
 #[test]
 fn seeded_small_plans() {
     let mut rng = Rng::new(60);
@@ -224,7 +271,8 @@ fn near_checkers_differ() {
     }
 }
 
-fn answer_of(file: &[u8]) -> Option<Stop> {
+/// The library's answer of a plain plan that opens.
+pub fn answer_of(file: &[u8]) -> Option<Stop> {
     let answer = archive::check(file);
     match answer.number {
         0 => None,

@@ -77,6 +77,13 @@ fn old_choices(steps: &[Step], arms: &[bool], branch: &mut usize, choices: &mut 
                 }
                 choices.push(0);
             }
+            Step::Fixed(turns, arm) => {
+                let outside = *branch;
+                for _ in 0..*turns {
+                    *branch = outside;
+                    old_choices(arm, arms, branch, choices);
+                }
+            }
         }
     }
 }

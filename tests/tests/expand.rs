@@ -31,8 +31,8 @@ fn match_judge(file: &[u8], counts: &mut Counts) {
 /// The answer and every byte of an output of `room` bytes.
 fn match_expand(file: &[u8], room: usize, counts: &mut Counts) -> Vec<u8> {
     let (mut ours, mut theirs) = (vec![PATTERN; room], vec![PATTERN; room]);
-    let answer = archive::expand(file, &mut ours);
     let expected = packed(walker::expand(file, &mut theirs), kind_of(file));
+    let answer = archive::expand(file, &mut ours);
     assert_eq!(answer, expected, "room {room}: {:02X?}", &file[..file.len().min(400)]);
     assert!(ours == theirs, "the outputs differ: {:02X?}", &file[..file.len().min(400)]);
     *counts.entry(expected.number).or_default() += 1;
@@ -126,6 +126,34 @@ fn seeded_plans_expanded() {
     println!("{counts:?}, written {written}");
     for number in [0, 12, 13, 14, 15, 16, 17] {
         assert!(counts.get(&number).is_some_and(|&n| n > 500), "number {number} is too rare");
+    }
+}
+
+/// Fixed loops in body 0 and in passes: judged, expanded, and refused by 26 where
+/// a call's product would pass 4,096.
+#[test]
+fn seeded_fixed_loops() {
+    let mut rng = Rng::new(77);
+    let (mut judged, mut expanded) = (Counts::new(), Counts::new());
+    for round in 0..6000 {
+        let mut draft = declared_fixed(&mut rng, round);
+        if rng.chance(30) {
+            draft = some_declared(&mut rng, round);
+            fix_loops(&mut rng, &mut draft, 70, &[1, 2, 3, 64], 4096);
+        }
+        let file = if rng.chance(10) { any_fixed_file(&mut rng) } else { encode(&draft) };
+        match_judge(&file, &mut judged);
+        if let Some(expansion) = match_rooms(&file, &mut expanded) {
+            assert_eq!(archive::open(&expansion).number, 0);
+            assert_eq!(archive::check(&expansion).number, 0);
+        }
+    }
+    println!("{judged:?}\n{expanded:?}");
+    for number in [0, 12, 13, 14, 15, 26] {
+        assert!(judged.get(&number).is_some_and(|&n| n >= 20), "judge: number {number} is too rare");
+    }
+    for number in [0, 12, 13, 14, 15, 16, 17, 26] {
+        assert!(expanded.get(&number).is_some_and(|&n| n >= 100), "expand: number {number} is too rare");
     }
 }
 

@@ -38,6 +38,22 @@ fn match_all(file: &[u8], counts: &mut Counts, views: &mut Counts) {
     }
 }
 
+/// Files with fixed loops, products past 4,096 among them.
+#[test]
+fn seeded_fixed_loops() {
+    let mut rng = Rng::new(8);
+    let (mut counts, mut views) = (Counts::new(), Counts::new());
+    for _ in 0..20_000 {
+        match_all(&generate::any_fixed_file(&mut rng), &mut counts, &mut views);
+    }
+    println!("open: {counts:?}");
+    println!("body view: {views:?}");
+    for number in [0, 8, 9, 10, 26] {
+        assert!(counts.get(&number).is_some_and(|&n| n >= 100), "open: number {number} is too rare");
+        assert!(views.get(&number).is_some_and(|&n| n >= 100), "view: number {number} is too rare");
+    }
+}
+
 #[test]
 fn seeded_files() {
     let mut rng = Rng::new(3);

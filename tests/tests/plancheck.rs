@@ -24,6 +24,17 @@ fn seeded_files() {
     }
 }
 
+/// Loops whose statuses repeat every second turn: an odd count for an even one
+/// gives another answer.
+#[test]
+fn fixed_loops_of_period_two() {
+    let mut rng = Rng::new(101);
+    for _ in 0..300 {
+        match_line(&encode(&period_two_fixed(&mut rng)));
+        match_line(&any_fixed_file(&mut rng));
+    }
+}
+
 /// "reads a file from standard input", whatever its length.
 #[test]
 fn inputs_of_any_length() {

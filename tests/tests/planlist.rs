@@ -38,6 +38,7 @@ fn words(record: &Record) -> String {
         MARK => format!("mark {on}"),
         BRANCH => "branch".into(),
         LOOP => "loop".into(),
+        FIXED => format!("fixed loop, {}", counted(record.q, "turn", "turns")),
         CALL => format!("call body {}", record.p),
         R => format!("R {on}"),
         W => format!("W {on}"),
@@ -56,7 +57,7 @@ fn block(plan: &Plan, part: Range<usize>, level: usize) -> Vec<String> {
         lines.push(line(level, &format!("{r} {}", words(record))));
         let (first, second) = plan.arms(r);
         r = second.end;
-        if matches!(record.kind, BRANCH | LOOP) && first.is_empty() {
+        if matches!(record.kind, BRANCH | LOOP | FIXED) && first.is_empty() {
             lines.push(line(level + 1, "nothing"));
         }
         lines.extend(block(plan, first, level + 1));
@@ -288,6 +289,18 @@ fn inputs_of_any_length() {
         match_listing(&file, &mut counts);
     }
     assert!([1, 2, 6].iter().all(|number| counts.contains_key(number)));
+}
+
+/// Fixed loops, and files that say 26.
+#[test]
+fn seeded_fixed_loops() {
+    let mut rng = Rng::new(115);
+    let mut counts = Counts::new();
+    for _ in 0..400 {
+        match_listing(&any_fixed_file(&mut rng), &mut counts);
+    }
+    println!("{counts:?}");
+    assert!([0, 8, 26].iter().all(|number| counts.get(number).is_some_and(|&n| n >= 10)));
 }
 
 /// One body alone: the body view and its answer.

@@ -42,8 +42,8 @@ fn expanded(file: &[u8]) -> (Vec<u8>, String, u16) {
 
 /// The same of the program, whose output is given.
 fn match_expanded(file: &[u8], counts: &mut Counts) -> Vec<u8> {
-    let (bytes, line) = output("planexpand", &[], file);
     let (expected, expected_line, number) = expanded(file);
+    let (bytes, line) = output("planexpand", &[], file);
     assert_eq!(line, expected_line, "{}", shown(file));
     assert!(bytes == expected, "{line:?}: the outputs differ: {}", shown(file));
     *counts.entry(number).or_default() += 1;

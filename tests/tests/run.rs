@@ -75,8 +75,8 @@ fn cells_of(file: &[u8]) -> usize {
 /// and given.
 fn match_run(file: &[u8], choices: &[u8], lent: &Lent, counts: &mut Counts) -> (Answer, Lent) {
     let (mut ours, mut theirs) = (lent.clone(), lent.clone());
-    let answer = ours.library(file, choices);
     let expected = theirs.walker(file, choices);
+    let answer = ours.library(file, choices);
     let shown = || {
         let some = &choices[..choices.len().min(100)];
         format!("{answer:?}, {} choices {some:?}, {:02X?}", choices.len(), &file[..file.len().min(400)])
@@ -211,6 +211,54 @@ fn every_run_of_every_small_plan() {
     assert_counted(&counts, [0, 21, 22], 200_000);
 }
 
+/// The same with fixed loops of one to three turns, up to three records over one
+/// cell, on all lists of up to three choices.
+#[test]
+fn every_run_of_every_small_plan_with_fixed_loops() {
+    let mut counts = Counts::new();
+    for draft in every_plan_fixed(&[1], &[1, 2, 3], 3) {
+        if !has_fixed(&draft.bodies[0].records) {
+            continue;
+        }
+        let file = encode(&draft);
+        let lent = Lent::beyond(&file, 1);
+        for list in (0..=3).flat_map(every_choices) {
+            match_run(&file, &list, &lent, &mut counts);
+        }
+    }
+    assert_counted(&counts, [0, 21, 22], 5000);
+}
+
+/// Fixed loops of any shape whose runs get far, and files of which none runs.
+#[test]
+fn seeded_runs_of_fixed_loops() {
+    let mut rng = Rng::new(87);
+    let mut counts = Counts::new();
+    for round in 0..12_000 {
+        let (length, more) = (rng.between(0, 40), rng.between(10, 70));
+        let list = choices(&mut rng, length, more);
+        let mut draft = match round % 4 {
+            0 => turning_fixed(&mut rng),
+            1 => small_fixed(&mut rng),
+            2 => {
+                let (product, parts) = (rng.pick(&[12, 60, 64]), rng.between(1, 12));
+                product_plain(&mut rng, product, parts)
+            }
+            _ => {
+                let shape = Shape::any(&mut rng);
+                let mut draft = plain(&mut rng, &shape);
+                fix_loops(&mut rng, &mut draft, 70, &[1, 2, 3, 20], 40);
+                draft
+            }
+        };
+        let times = rng.pick(&[0, 2, 20, 200]);
+        mend(&mut rng, &mut draft, times, &|file| stop(file, &list));
+        let file = if rng.chance(10) { any_fixed_file(&mut rng) } else { encode(&draft) };
+        match_run(&file, &list, &Lent::beyond(&file, 3), &mut counts);
+    }
+    assert_counted(&counts, [0, 11, 21, 22, 26], 50);
+}
+
 /// 16 levels of records that never stop, on choices that lead to the innermost
 /// arm and out again.
 #[test]
@@ -325,6 +373,23 @@ fn longest(arm: Vec<Step>, length: u16) -> Lent {
     let (answer, left) = match_run(&file, &list, &Lent::beyond(&file, 3), &mut Counts::new());
     assert_eq!((answer.number, left.end[0]), (0, 65_536));
     left
+}
+
+/// 4,096 turns of 1,023 records, in one fixed loop and in twelve of two turns, on
+/// no choice at all; and 64 turns at each turn of the longest run.
+#[test]
+fn the_most_turns() {
+    let arm = [write(0, 0, 0, 1), copy(1, 0, 0, 1), read(1, 0, 0, 1)];
+    let run = |steps: &[Step], list: &[u8]| {
+        let file = encode(&Draft::plain(&[1], steps));
+        match_run(&file, list, &Lent::beyond(&file, 3), &mut Counts::new())
+    };
+    let (answer, left) = run(&[Step::Fixed(4096, vec![arm.clone(); 341].concat())], &[]);
+    assert_eq!((answer.number, left.tally, left.end[0]), (0, [4096 * 341; 3], 0));
+    let nested = (0..12).fold(vec![arm.clone(); 337].concat(), |steps, _| vec![Step::Fixed(2, steps)]);
+    let (answer, left) = run(&nested, &[]);
+    assert_eq!((answer.number, left.tally, left.end[0]), (0, [4096 * 337; 3], 0));
+    assert_eq!(longest(vec![Step::Fixed(64, arm.to_vec())], 1).tally, [65_535 * 64; 3]);
 }
 
 #[test]

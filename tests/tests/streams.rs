@@ -10,7 +10,7 @@ use std::path::{Path, PathBuf};
 use std::process::{Command, Stdio};
 
 /// The programs that read a plan from standard input.
-const READERS: [&str; 4] = ["plancheck", "planlist", "planexpand", "loopturns"];
+const READERS: [&str; 3] = ["plancheck", "planlist", "planexpand"];
 
 const ROOT: &str = concat!(env!("CARGO_MANIFEST_DIR"), "/..");
 
@@ -80,7 +80,6 @@ fn an_endless_input_is_answered() {
         match name {
             "plancheck" => assert_eq!(stdout, b"0 2 0 0\n"),
             "planlist" => assert_eq!(stdout, b"not a plan: 2 a header byte against its rule\n"),
-            "loopturns" => assert_eq!(stdout, b"no loop\n"),
             _ => assert_eq!((&stdout[..], &said[..]), (&b""[..], "0 2 0 0\n")),
         }
     }

@@ -3,21 +3,20 @@ use Prim.Native.Nat.{ℕ, zero, suc, _+_, _≤_, _<_}
 use mathlib.Core.Path.{_≡_, refl, sym, _∙_}
 use mathlib.Core.Logic.{inl, inr}
 use mathlib.Core.List.{List}
-use native.Nat.{ℕᴺ-discrete}
 use native.Mathlib.Decide.{decLt}
 use native.Mathlib.Omega.{arith}
 use Rattle.model.specs.Sides.{Layout, span-of}
 use Rattle.model.specs.Records.{Action, covers as covers-cell}
-use Rattle.model.specs.Blocks.{Block, done, act, branch, loop}
+use Rattle.model.specs.Blocks.{Block, done, act, branch, loop, fixed}
 use Rattle.model.specs.Inner.Holders.{array-of}
 use Rattle.model.proofs.Numbering.{array-from}
 use Rattle.model.proofs.Status.{Status, met-in, status-after}
-use Rattle.model.proofs.Through.{Star, stay, more, Goes, Stops, StopsAt}
+use Rattle.model.proofs.Through.{Star, stay, more, Power, Goes, Stops, StopsAt}
 use Rattle.reading.specs.Bytes.{layout-of, record-count, fields-at}
 use Rattle.format.specs.Plans.{plan-of}
 use Rattle.format.specs.Inner.Walks.{Plain, Walkable, block-between}
 use Rattle.format.proofs.Walking.{opened-facts}
-use Rattle.format.proofs.Trees.{block-none, block-branch, block-loop, block-act, plain-walk, plain-body}
+use Rattle.format.proofs.Trees.{is-branch, is-loop, is-fixed, is-leaf, shape, acts, block-none, block-branch, block-loop, block-fixed, block-act, plain-walk, plain-body}
 use Rattle.format.proofs.Acts.{here}
 use Rattle.statuses.specs.Inner.Sets.{at-start}
 use Rattle.lookahead.specs.Inner.Ahead.{cell-at, covers}
@@ -34,6 +33,7 @@ module _ (layout : Layout) (c d : ℕ) (own : array-of layout c ≡ array-of lay
   Alike (act k x b) = (covers-cell layout x c ≡ covers-cell layout x d) × Alike b
   Alike (branch k x y b) = Alike x × Alike y × Alike b
   Alike (loop k x b) = Alike x × Alike b
+  Alike (fixed k n x b) = Alike x × Alike b
 
   -- a record leaves them in the same status, and needs the same of them
   module _ (x : Action) (e : covers-cell layout x c ≡ covers-cell layout x d) (u : Status) where
@@ -42,6 +42,10 @@ module _ (layout : Layout) (c d : ℕ) (own : array-of layout c ≡ array-of lay
 
     met-alike : met-in layout c x u ≡ met-in layout d x u
     met-alike = rw e
+
+  power-alike : (x : Block Action) → ((u v : Status) → Goes layout c x u v → Goes layout d x u v) → (n : ℕ) (u v : Status) → Power (Goes layout c x) n u v → Power (Goes layout d x) n u v
+  power-alike x h zero u v p = p
+  power-alike x h (suc n) u v p = (p .0, h u (p .0) (p .1), power-alike x h n (p .0) v (p .2))
 
   goes-alike : (b : Block Action) → Alike b → (u v : Status) → Goes layout c b u v → Goes layout d b u v
   goes-alike done a u v g = g
@@ -52,6 +56,7 @@ module _ (layout : Layout) (c d : ℕ) (own : array-of layout c ≡ array-of lay
     goes-alike b (a .2) (g .0) v (g .2),
   )
   goes-alike (loop k x b) a u v g = (g .0, star-map (goes-alike x (a .0)) (g .1), goes-alike b (a .1) (g .0) v (g .2))
+  goes-alike (fixed k n x b) a u v g = (g .0, power-alike x (goes-alike x (a .0)) (suc n) u (g .0) (g .1), goes-alike b (a .1) (g .0) v (g .2))
 
   stops-alike : (b : Block Action) → Alike b → (u : Status) (r : ℕ) → Stops layout c b u r → Stops layout d b u r
   stops-alike done a u r s = s
@@ -68,6 +73,11 @@ module _ (layout : Layout) (c d : ℕ) (own : array-of layout c ≡ array-of lay
     star-map (goes-alike x (a .0)) (s .1),
     elim (s .2) [ inl p ↦ inl (stops-alike x (a .0) (s .0) r p) | inr p ↦ inr (stops-alike b (a .1) (s .0) r p) ],
   )
+  stops-alike (fixed k n x b) a u r (inl s) =
+      let (m, l, p) = s .1 in
+      inl (s .0, (m, l, power-alike x (goes-alike x (a .0)) m u (s .0) p), stops-alike x (a .0) (s .0) r (s .2))
+  stops-alike (fixed k n x b) a u r (inr s) =
+      inr (s .0, power-alike x (goes-alike x (a .0)) (suc n) u (s .0) (s .1), stops-alike b (a .1) (s .0) r (s .2))
 
 -- a cell that no record tells apart from the cell before it in its array
 module _ (f : List ℕ) (bodies : ℕ) (w : Plain f bodies) (array offset : ℕ) (inside : suc offset < span-of (layout-of f) array .length)
@@ -88,13 +98,12 @@ module _ (f : List ℕ) (bodies : ℕ) (w : Plain f bodies) (array offset : ℕ)
         let s = k .steps in
         let rest = block-alike n _ _ (s .rest) (omega (arith, s .inside)) m in
         let one = block-alike n _ _ (s .one) (omega (arith, s .inside)) (omega (arith, s .inside)) in
-        elim (ℕᴺ-discrete (x .kind) 6) [
-          | yes z ↦ rw (block-branch f r end h g x refl z) (one, block-alike n _ _ (s .two) (omega (arith, s .inside)) (omega (arith, s .inside)), rest)
-          | no z ↦ elim (ℕᴺ-discrete (x .kind) 7) [
-            | yes y ↦ rw (block-loop f r end h g x refl y) (one, rest)
-            | no y ↦ let j : (1 ≤ x .kind) × (x .kind ≤ 5) = (k .low, omega (arith, k .high)) in
-                rw (block-act f r end h g x refl z y) (act-covers x j f array (suc offset) inside ∙ (alike r (omega arith) ∙ sym (act-covers x j f array offset (omega arith))), rest)
-          ]
+        elim (shape x) [
+          | is-branch z ↦ rw (block-branch f r end h g x refl z) (one, block-alike n _ _ (s .two) (omega (arith, s .inside)) (omega (arith, s .inside)), rest)
+          | is-loop z ↦ rw (block-loop f r end h g x refl z) (one, rest)
+          | is-fixed z ↦ rw (block-fixed f r end h g x refl z) (one, rest)
+          | is-leaf z ↦ let j = acts x (k .low, k .high, k .no-call) z in
+              rw (block-act f r end h g x refl z) (act-covers x j f array (suc offset) inside ∙ (alike r (omega arith) ∙ sym (act-covers x j f array offset (omega arith))), rest)
         ]
   ]
 

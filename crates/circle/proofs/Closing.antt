@@ -12,7 +12,7 @@ use Rattle.model.specs.declared.Verdict.{Verdict}
 use Rattle.model.specs.declared.Verdict.the-variants.{Accepted, Refused}
 use Rattle.model.specs.Verdicts.{accepted}
 use Rattle.model.specs.Sides.{Side, host, card, at, Layout, cell-count}
-use Rattle.model.specs.Blocks.{size, Plan}
+use Rattle.model.specs.Blocks.{size, largest, Plan}
 use Rattle.model.specs.Runs.{Config, Ending, finished, stopped, out-of-choices, Ends, tally}
 use Rattle.model.specs.Demand.{latest-write}
 use Rattle.model.proofs.Runs.{carried}
@@ -30,7 +30,7 @@ use Rattle.judge.proofs.Rules.{accepted-rules}
 use Rattle.files.specs.Expansions.{expansion-of, expansion-file}
 use Rattle.circle.proofs.Opens.{expansion-opens}
 use Rattle.circle.proofs.Runs.{file-demand3}
-use Rattle.circle.proofs.Writes.{judged-and-small}
+use Rattle.expand.proofs.Laws.Answers.{written}
 use Rattle.model.specs.declared.End.{End}
 use Rattle.run.specs.Running.{Lent, Roomy, run-rows, memory, holding, no-end, end-of, Ran, Runs}
 use Rattle.standing.specs.Choices.{choices-of}
@@ -42,9 +42,9 @@ held-at : (n : ℕ) (held : ℕ → ℕ) (old : List ℕ) (c : ℕ) → c < n �
 unfolding memory
 held-at n held old c l = List·getD-append (table held n) (drop n old) 0 c (rw (length-table held n) l) ∙ getD-table held n c 0 l
 
-module _ (f : List ℕ) (judges : judged f ≡ Accepted) (small : size (expansion-of f .body) ≤ 1024) (choices : List ℕ) (before after : Lent) (answer : End) where
+module _ (f : List ℕ) (judges : judged f ≡ Accepted) (small : size (expansion-of f .body) ≤ 1024) (low : largest (expansion-of f .body) ≤ 4096) (choices : List ℕ) (before after : Lent) (answer : End) where
   same-plan : plan-of (expansion-file f) ≡ expansion-of f
-  same-plan = expansion-opens f judges small .2
+  same-plan = expansion-opens f judges small low .2
 
   -- a run that is done, and what its tally then is
   adds : (k : Config) → Ends (expansion-of f) (choices-of choices) k finished → after .tally .moved ≡ tally (layout-of f) (k .history) .moved → Adds f choices after
@@ -126,7 +126,7 @@ module _ (f : List ℕ) (judges : judged f ≡ Accepted) (small : size (expansio
   rows : answer-of (run-rows (expansion-file f) choices before) ≡ answer-of (row short 19 0 ∷ row (ltb 65536 (length choices)) 20 0 ∷ [])
   unfolding run-rows opening short
   rows =
-      let o = expansion-opens f judges small in
+      let o = expansion-opens f judges small low in
       sym (pass (open-rows (expansion-file f)) _ _ (sym (o .0)) (skips _ _ _ _ _ (rw (o .1)) refl))
 
   long : Roomy (cell-count (layout-of f)) before → short ≡ false
@@ -150,5 +150,5 @@ module _ (f : List ℕ) (judges : judged f ≡ Accepted) (small : size (expansio
 pub closed : ClaimRuns
 unfolding Runs
 closed f out e choices before after answer r =
-    let g = judged-and-small f out e in
-    runs-as f (g .0) (g .1) choices before after answer r
+    let g = written f out e in
+    runs-as f (g .0) (g .1) (g .2) choices before after answer r

@@ -1,9 +1,8 @@
 -- The expansion of a file that opens as a declared plan is within the bounds of a plain plan, where it has at most 1,024 records.
 use mathlib.Core.Path.{_≡_, refl, sym, ap, _∙_}
-use mathlib.Core.Bool.{Bool, true, _&&_}
+use mathlib.Core.Bool.{Bool, true, false, _&&_}
 use mathlib.Core.List.{List, [], _∷_, _++_}
-use Prim.Native.Nat.{ℕ, zero, suc, _+_, _-_, _≤_, _<_}
-use native.Nat.{ℕᴺ-discrete}
+use Prim.Native.Nat.{ℕ, zero, suc, _+_, _-_, _*_, _≤_, _<_}
 use native.Mathlib.Decide.{decLt}
 use native.Mathlib.Omega.{arith}
 use lib.Dec.{ltb, leb, eqb}
@@ -12,14 +11,14 @@ use borrow.Author.Tests.{ltb-true, ltb-false, le-leb}
 use Rattle.model.specs.declared.Verdict.the-variants.{Accepted}
 use Rattle.model.specs.Sides.{side-number, span-of}
 use Rattle.model.specs.Records.{Verb, read, write, copy, need, mark, Action}
-use Rattle.model.specs.Blocks.{Block, size}
+use Rattle.model.specs.Blocks.{Block, size, largest}
 use Rattle.model.specs.Judging.{Declaration, Pass, pass-of}
 use Rattle.model.specs.Inner.Declared.{no-pass}
 use Rattle.model.specs.Expanding.{expand}
 use Rattle.model.proofs.Booleans.{and-out, and-in}
 use Rattle.model.proofs.Stamps.{as-verb}
 use Rattle.reading.specs.declared.Fields.{Fields}
-use Rattle.reading.specs.Bytes.{is-declared, array-count, body-count, table, length-at, layout-of, records-in, declarations-in, first-record, fields-at, between, lengths-of}
+use Rattle.reading.specs.Bytes.{is-declared, array-count, body-count, table, length-at, layout-of, records-in, declarations-in, first-record, fields-at, between, lengths-of, nests, turns-of}
 use Rattle.rules.specs.Rules.{fields-fit, deepest}
 use Rattle.format.specs.Opening.{opening}
 use Rattle.format.specs.Plans.{action-of, declaration-of, pass-at, declared-plan-of}
@@ -33,11 +32,11 @@ use Rattle.reading.proofs.FileKinds.{not-plain}
 use Rattle.rules.proofs.Fields.{fit-declaration}
 use Rattle.rules.proofs.Rules.{Tests}
 use Rattle.format.proofs.Walking.{Facts, opened-facts, good-parts}
-use Rattle.format.proofs.Trees.{block-none, block-branch, block-loop, block-act, body0-none, body0-branch, body0-loop, body0-call, walk-of, body0-good, body0-body, pass-kind, pass-good, pass-declaration, pass-body}
+use Rattle.format.proofs.Trees.{shape, is-branch, is-loop, is-fixed, is-leaf, acts, block-none, block-branch, block-loop, block-fixed, block-act, body0-none, body0-branch, body0-loop, body0-fixed, body0-call, walk-of, body0-good, body0-body, pass-kind, pass-good, pass-declaration, pass-body}
 use Rattle.files.specs.Expansions.{expansion-of}
 use Rattle.sizes.proofs.Fields.{action-again}
 use Rattle.sizes.proofs.Walks.{second, next}
-use Rattle.circle.proofs.Levels.{more-levels, branch-fits, loop-fits, then-fits, declared-fits, numbered-fits}
+use Rattle.circle.proofs.Levels.{more-levels, branch-fits, loop-fits, fixed-fits, then-fits, declared-fits, numbered-fits}
 
 -- a test that each entry of a table passes
 module _ {A : Type 0} (test : A → Bool) where
@@ -102,46 +101,51 @@ module _ (f : List ℕ) where
 module _ (f : List ℕ) (declared : is-declared f ≡ true) (b low most : ℕ) (enough : 8 ≤ most) (block : ℕ → ℕ → Block Action) where
   record Parted : Type 0 where
     none : (r end : ℕ) → end ≤ r → block r end ≡ Block.done
-    branch : (depth r end : ℕ) → r < end → Good f b depth r end → fields-at f r .kind ≡ 6
+    branch : (depth around r end : ℕ) → r < end → Good f b depth around r end → fields-at f r .kind ≡ 6
         → (n : ℕ) × (block r end ≡ Block.branch n (block (r + 1) (second f r)) (block (second f r) (next f r)) (block (next f r) end))
-    loop : (depth r end : ℕ) → r < end → Good f b depth r end → fields-at f r .kind ≡ 7
+    loop : (depth around r end : ℕ) → r < end → Good f b depth around r end → fields-at f r .kind ≡ 7
         → (n : ℕ) × (block r end ≡ Block.loop n (block (r + 1) (second f r)) (block (next f r) end))
-    other : (levels depth r end : ℕ) → depth + levels ≡ most → depth ≤ 8 → low ≤ r → r < end → Good f b depth r end → (fields-at f r .kind ≡ 6 → ⊥) → (fields-at f r .kind ≡ 7 → ⊥)
+    fixed : (depth around r end : ℕ) → r < end → Good f b depth around r end → fields-at f r .kind ≡ 9
+        → (n : ℕ) × (q : ℕ) × (block r end ≡ Block.fixed n q (block (r + 1) (second f r)) (block (next f r) end))
+    other : (levels depth around r end : ℕ) → depth + levels ≡ most → depth ≤ 8 → low ≤ r → r < end → Good f b depth around r end → nests (fields-at f r) ≡ false
         → block-fits (layout-of f) levels (block (next f r) end) ≡ true → block-fits (layout-of f) levels (block r end) ≡ true
 
   -- "in a body of a declared plan inside at most 7"
-  shallow : (depth r end : ℕ) → Tests f b depth r end → 6 ≤ fields-at f r .kind → fields-at f r .kind ≤ 7 → depth < 8
+  shallow : (depth around r end : ℕ) → Tests f b depth around r end → nests (fields-at f r) ≡ true → depth < 8
   unfolding deepest
-  shallow depth r end t h k = let l : depth ≤ 7 = ltb-false 7 depth (rw (in-range 6 7 (fields-at f r .kind) h k, not-plain f declared) at (t .shallow)) in omega arith
+  shallow depth around r end t k = let l : depth ≤ 7 = ltb-false 7 depth (rw (k, not-plain f declared) at (t .shallow)) in omega arith
 
   module _ (parted : Parted) where
-    parts-fit : (fuel levels depth r end : ℕ) → end ≤ r + fuel → depth + levels ≡ most → depth ≤ 8 → low ≤ r → Good f b depth r end → block-fits (layout-of f) levels (block r end) ≡ true
-    parts-fit zero levels depth r end n d e l g = rw (parted .none r end (omega arith))
-    parts-fit (suc fuel) levels depth r end n d e l g = elim (decLt r end) [
+    parts-fit : (fuel levels depth around r end : ℕ) → end ≤ r + fuel → depth + levels ≡ most → depth ≤ 8 → low ≤ r → Good f b depth around r end → block-fits (layout-of f) levels (block r end) ≡ true
+    parts-fit zero levels depth around r end n d e l g = rw (parted .none r end (omega arith))
+    parts-fit (suc fuel) levels depth around r end n d e l g = elim (decLt r end) [
       | no m ↦ rw (parted .none r end (omega arith))
       | yes m ↦
-          let p = good-parts f b depth r end m g in
+          let p = good-parts f b depth around r end m g in
           let i = p .tests .inside in
-          let rest = parts-fit fuel levels depth (next f r) end (omega arith) d e (omega arith) (p .rest) in
-          elim (ℕᴺ-discrete (fields-at f r .kind) 6) [
-            | yes k ↦
-                let s = shallow depth r end (p .tests) (omega arith) (omega arith) in
-                branch-fits (layout-of f) most depth (omega arith) (parted .branch depth r end m g k .1) levels d
-                (λ q u. parts-fit fuel q (depth + 1) (r + 1) (second f r) (omega arith) u (omega arith) (omega arith) (p .one))
-                (λ q u. parts-fit fuel q (depth + 1) (second f r) (next f r) (omega arith) u (omega arith) (omega arith) (p .two)) rest
-            | no j ↦ elim (ℕᴺ-discrete (fields-at f r .kind) 7) [
-              | yes k ↦
-                  let s = shallow depth r end (p .tests) (omega arith) (omega arith) in
-                  loop-fits (layout-of f) most depth (omega arith) (parted .loop depth r end m g k .1) levels d
-                  (λ q u. parts-fit fuel q (depth + 1) (r + 1) (second f r) (omega arith) u (omega arith) (omega arith) (p .one)) rest
-              | no k ↦ parted .other levels depth r end d e l m g j k rest
-            ]
+          let within = around * turns-of (fields-at f r) in
+          let rest = parts-fit fuel levels depth around (next f r) end (omega arith) d e (omega arith) (p .rest) in
+          elim (shape (fields-at f r)) [
+            | is-branch k ↦
+                let s = shallow depth around r end (p .tests) (rw k) in
+                branch-fits (layout-of f) most depth (omega arith) (parted .branch depth around r end m g k .1) levels d
+                (λ q u. parts-fit fuel q (depth + 1) within (r + 1) (second f r) (omega arith) u (omega arith) (omega arith) (p .one))
+                (λ q u. parts-fit fuel q (depth + 1) within (second f r) (next f r) (omega arith) u (omega arith) (omega arith) (p .two)) rest
+            | is-loop k ↦
+                let s = shallow depth around r end (p .tests) (rw k) in
+                loop-fits (layout-of f) most depth (omega arith) (parted .loop depth around r end m g k .1) levels d
+                (λ q u. parts-fit fuel q (depth + 1) within (r + 1) (second f r) (omega arith) u (omega arith) (omega arith) (p .one)) rest
+            | is-fixed k ↦
+                let s = shallow depth around r end (p .tests) (rw k) in
+                fixed-fits (layout-of f) most depth (omega arith) (parted .fixed depth around r end m g k .2) levels d
+                (λ q u. parts-fit fuel q (depth + 1) within (r + 1) (second f r) (omega arith) u (omega arith) (omega arith) (p .one)) rest
+            | is-leaf k ↦ parted .other levels depth around r end d e l m g k rest
           ]
     ]
 
     -- the records of a good block that stands inside no other
-    body-fits : (r end : ℕ) → low ≤ r → Good f b 0 r end → block-fits (layout-of f) most (block r end) ≡ true
-    body-fits r end l g = parts-fit end most 0 r end (omega arith) (omega arith) (omega arith) l g
+    body-fits : (r end : ℕ) → low ≤ r → Good f b 0 1 r end → block-fits (layout-of f) most (block r end) ≡ true
+    body-fits r end l g = parts-fit end most 0 1 r end (omega arith) (omega arith) (omega arith) l g
 
 -- a file that opens as a declared plan
 module _ (f : List ℕ) (w : Facts f) (declared : is-declared f ≡ true) where
@@ -163,12 +167,13 @@ module _ (f : List ℕ) (w : Facts f) (declared : is-declared f ≡ true) where
     pass-parted : Parted f declared b until 8 (omega arith) (block-between f)
     pass-parted = record {
       none = block-none f;
-      branch = λ depth r end m g k. (r, block-branch f r end m (walk-of g) (fields-at f r) refl k);
-      loop = λ depth r end m g k. (r, block-loop f r end m (walk-of g) (fields-at f r) refl k);
-      other = λ levels depth r end d e h m g j k rest.
-          let t = good-parts f b depth r end m g .tests in
-          let kinds = pass-kind f w declared b p l r h (t .allows) in
-          rw (block-act f r end m (walk-of g) (fields-at f r) refl j k) (and-in _ _ (action-fit f (fields-at f r) (t .fits) (kinds .0) (omega arith)) rest);
+      branch = λ depth around r end m g k. (r, block-branch f r end m (walk-of g) (fields-at f r) refl k);
+      loop = λ depth around r end m g k. (r, block-loop f r end m (walk-of g) (fields-at f r) refl k);
+      fixed = λ depth around r end m g k. (r, fields-at f r .q - 1, block-fixed f r end m (walk-of g) (fields-at f r) refl k);
+      other = λ levels depth around r end d e h m g k rest.
+          let t = good-parts f b depth around r end m g .tests in
+          let kinds = acts (fields-at f r) (pass-kind f w declared b p l r h (t .allows)) k in
+          rw (block-act f r end m (walk-of g) (fields-at f r) refl k) (and-in _ _ (action-fit f (fields-at f r) (t .fits) (kinds .0) (kinds .1)) rest);
     }
 
     declarations-fit : all-pass (λ (d : Declaration). ltb (d .array) (length (lengths-of f))) (pass-at f b .declarations) ≡ true
@@ -176,7 +181,7 @@ module _ (f : List ℕ) (w : Facts f) (declared : is-declared f ≡ true) where
     declarations-fit = all-table _ _ (declarations-in f b) λ i h.
         let g = pass-good f w declared b p l i (omega arith) in
         let d = pass-declaration f w declared b p l i h in
-        declaration-fit f (fields-at f (first-record f b + i)) (good-parts f b 0 _ _ (omega (arith, w .bounds .declared b l, next-record f b l)) g .tests .fits) (d .0) (d .1)
+        declaration-fit f (fields-at f (first-record f b + i)) (good-parts f b 0 1 _ _ (omega (arith, w .bounds .declared b l, next-record f b l)) g .tests .fits) (d .0) (d .1)
 
     others-fit : block-fits (layout-of f) 8 (pass-at f b .body) ≡ true
     others-fit = rw (pass-body f w declared b p l) (body-fits f declared b until 8 (omega arith) (block-between f) pass-parted until _ (omega arith) (rw (next-record f b l) at (pass-good f w declared b p l (declarations-in f b) (omega arith))))
@@ -195,12 +200,13 @@ module _ (f : List ℕ) (w : Facts f) (declared : is-declared f ≡ true) where
   body0-parted : Parted f declared 0 0 16 (omega arith) (λ r end. expand passes (body0-between f r end))
   body0-parted = record {
     none = λ r end h. ap (expand passes) (body0-none f r end h);
-    branch = λ depth r end m g k. (r, ap (expand passes) (body0-branch f r end m (walk-of g) (fields-at f r) refl k));
-    loop = λ depth r end m g k. (r, ap (expand passes) (body0-loop f r end m (walk-of g) (fields-at f r) refl k));
-    other = λ levels depth r end d e h m g j k rest.
+    branch = λ depth around r end m g k. (r, ap (expand passes) (body0-branch f r end m (walk-of g) (fields-at f r) refl k));
+    loop = λ depth around r end m g k. (r, ap (expand passes) (body0-loop f r end m (walk-of g) (fields-at f r) refl k));
+    fixed = λ depth around r end m g k. (r, fields-at f r .q - 1, ap (expand passes) (body0-fixed f r end m (walk-of g) (fields-at f r) refl k));
+    other = λ levels depth around r end d e h m g k rest.
         let called = pass-of passes (fields-at f r .p) in
         let fit = and-out (all-pass (λ (c : Declaration). ltb (c .array) (length (lengths-of f))) (called .declarations)) (block-fits (layout-of f) 8 (called .body)) (all-called called-fits refl passes (fields-at f r .p - 1) passes-fit) in
-        rw (ap (expand passes) (body0-call f r end m (walk-of g) (fields-at f r) refl j k))
+        rw (ap (expand passes) (body0-call f r end m (walk-of g) (fields-at f r) refl k))
         (declared-fits (layout-of f) (called .declarations) _ levels (fit .0) (then-fits (layout-of f) (called .body) _ levels (more-levels (layout-of f) (called .body) 8 levels (omega arith) (fit .1)) rest));
   }
 
@@ -209,8 +215,8 @@ module _ (f : List ℕ) (w : Facts f) (declared : is-declared f ≡ true) where
       numbered-fits (layout-of f) 0 (expand passes (declared-plan-of f .body0)) 16
       ∙ rw (body0-body f w) (body-fits f declared 0 0 16 (omega arith) (λ r end. expand passes (body0-between f r end)) body0-parted 0 (records-in f 0) (omega arith) (body0-good f w))
 
-pub expansion-fits : (f : List ℕ) → opening f ≡ Accepted → is-declared f ≡ true → size (expansion-of f .body) ≤ 1024 → plain-fits (expansion-of f) ≡ true
+pub expansion-fits : (f : List ℕ) → opening f ≡ Accepted → is-declared f ≡ true → size (expansion-of f .body) ≤ 1024 → largest (expansion-of f .body) ≤ 4096 → plain-fits (expansion-of f) ≡ true
 unfolding declared-plan-of
-expansion-fits f e declared few =
+expansion-fits f e declared few low =
     let w = opened-facts f (sym e) in
-    and-in _ _ (arrays-within f w declared) (and-in _ _ (block-within f w declared) (le-leb _ _ few))
+    and-in _ _ (arrays-within f w declared) (and-in _ _ (block-within f w declared) (and-in _ _ (le-leb _ _ low) (le-leb _ _ few)))

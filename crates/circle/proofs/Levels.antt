@@ -34,6 +34,11 @@ module _ (layout : Layout) where
   more-levels (Block.loop r x b) (suc n) (suc m) h e =
       let fit = and-out (block-fits layout n x) (block-fits layout (suc n) b) e in
       and-in _ _ (more-levels x n m (omega arith) (fit .0)) (more-levels b (suc n) (suc m) h (fit .1))
+  more-levels (Block.fixed r q x b) zero m h e = absurd (false≢true e)
+  more-levels (Block.fixed r q x b) (suc n) zero h e = absurd (omega arith)
+  more-levels (Block.fixed r q x b) (suc n) (suc m) h e =
+      let fit = and-out (block-fits layout n x) (block-fits layout (suc n) b) e in
+      and-in _ _ (more-levels x n m (omega arith) (fit .0)) (more-levels b (suc n) (suc m) h (fit .1))
 
   -- a branch and a loop that stand inside `depth` others, where `most` levels are allowed in all
   module _ (most depth : ℕ) (inside : depth < most) {r : ℕ} {a x b : Block Action} where
@@ -47,6 +52,11 @@ module _ (layout : Layout) where
     loop-fits e zero d one rest = absurd (omega arith)
     loop-fits e (suc n) d one rest = rw e (and-in _ _ (one n (omega arith)) rest)
 
+    pub fixed-fits : {q : ℕ} → a ≡ Block.fixed r q x b → (levels : ℕ) → depth + levels ≡ most → ((n : ℕ) → depth + 1 + n ≡ most → block-fits layout n x ≡ true)
+        → block-fits layout levels b ≡ true → block-fits layout levels a ≡ true
+    fixed-fits e zero d one rest = absurd (omega arith)
+    fixed-fits e (suc n) d one rest = rw e (and-in _ _ (one n (omega arith)) rest)
+
   pub then-fits : (a b : Block Action) (n : ℕ) → block-fits layout n a ≡ true → block-fits layout n b ≡ true → block-fits layout n (a then b) ≡ true
   then-fits Block.done b n e h = h
   then-fits (Block.act r x a) b n e h =
@@ -59,6 +69,10 @@ module _ (layout : Layout) where
       and-in _ _ (fit .0) (and-in _ _ (fit′ .0) (then-fits a b (suc n) (fit′ .1) h))
   then-fits (Block.loop r x a) b zero e h = absurd (false≢true e)
   then-fits (Block.loop r x a) b (suc n) e h =
+      let fit = and-out (block-fits layout n x) (block-fits layout (suc n) a) e in
+      and-in _ _ (fit .0) (then-fits a b (suc n) (fit .1) h)
+  then-fits (Block.fixed r q x a) b zero e h = absurd (false≢true e)
+  then-fits (Block.fixed r q x a) b (suc n) e h =
       let fit = and-out (block-fits layout n x) (block-fits layout (suc n) a) e in
       and-in _ _ (fit .0) (then-fits a b (suc n) (fit .1) h)
 
@@ -81,6 +95,8 @@ module _ (layout : Layout) where
   numbered-fits r (Block.branch q x y b) (suc n) = rw (numbered-fits (suc r) x n, numbered-fits (suc r + size x) y n, numbered-fits (suc r + size x + size y) b (suc n))
   numbered-fits r (Block.loop q x b) zero = refl
   numbered-fits r (Block.loop q x b) (suc n) = rw (numbered-fits (suc r) x n, numbered-fits (suc r + size x) b (suc n))
+  numbered-fits r (Block.fixed q k x b) zero = refl
+  numbered-fits r (Block.fixed q k x b) (suc n) = rw (numbered-fits (suc r) x n, numbered-fits (suc r + size x) b (suc n))
 
 -- a block that is numbered twice
 pub numbered-again : (r s : ℕ) (b : Block Action) → numbered r (numbered s b) ≡ numbered r b
@@ -95,3 +111,4 @@ numbered-again r s (Block.branch q x y b) =
       numbered-again (suc r + size x + size y) (suc s + size x + size y) b,
     )
 numbered-again r s (Block.loop q x b) = rw (numbered-size (suc s) x, numbered-again (suc r) (suc s) x, numbered-again (suc r + size x) (suc s + size x) b)
+numbered-again r s (Block.fixed q n x b) = rw (numbered-size (suc s) x, numbered-again (suc r) (suc s) x, numbered-again (suc r + size x) (suc s + size x) b)

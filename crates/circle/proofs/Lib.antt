@@ -2,7 +2,6 @@
 pub mod Levels
 pub mod Fits
 pub mod Opens
-pub mod Writes
 pub mod Runs
 -- no run of what the expander writes is stopped
 pub mod Closing

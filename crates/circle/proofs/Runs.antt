@@ -12,7 +12,7 @@ use Rattle.judge.proofs.Rules.{accepted-rules}
 use Rattle.files.specs.Expansions.{expansion-of}
 use Rattle.circle.specs.Claims.{ClaimFile3, ClaimOpens}
 use Rattle.circle.proofs.Opens.{expansion-opens}
-use Rattle.circle.proofs.Writes.{judged-and-small}
+use Rattle.expand.proofs.Laws.Answers.{written}
 
 pub file-demand3 : ClaimFile3
 file-demand3 f accepted = demand3 (declared-plan-of f) (accepted-rules f .0 accepted .2)
@@ -22,6 +22,6 @@ expansion-accepted f accepted = accepted-iff (expansion-of f) .1 (λ cs. file-de
 
 pub written-opens : ClaimOpens
 written-opens f out e =
-    let (accepted, few) = judged-and-small f out e in
-    let (opens, plain, same) = expansion-opens f accepted few in
+    let (accepted, few, low) = written f out e in
+    let (opens, plain, same) = expansion-opens f accepted few low in
     (opens, plain, same, rw same (expansion-accepted f accepted))

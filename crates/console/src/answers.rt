@@ -20,7 +20,7 @@ pub fn print_answer(fd: i32, kind: u8, v: Values) -> bool {
 
 // The numbers that the programs give in words, those of document 01, 'Numbers by the place where each is checked', and of document 02, and behind them
 // the place, for the numbers that have one.
-const WORDS: [u8; 717] = *b"
+const WORDS: [u8; 789] = *b"
 01 under 4 bytes|
 02 a header byte against its rule|
 03 file ends inside the contents|
@@ -37,6 +37,7 @@ const WORDS: [u8; 717] = *b"
 23 first not below end, or end past the shortest memory|
 24 neither side wholly current|
 25 no such body|
+26 along some nesting the product of the counts passes 4,096, record #|
 38 n above 24|
 ";
 

@@ -7,14 +7,16 @@ ghost use Rattle.contents.specs.Inner.Findings.{found};
 ghost use Rattle.format.specs.Opening.{opened};
 ghost use Rattle.judge.specs.Judged.{judged};
 ghost use Rattle.model.specs.Blocks.{size};
+ghost use Rattle.model.specs.Rows.{answer-of};
 ghost use Rattle.sizes.specs.Inner.Sizes.{DeclaredFile, Places};
 ghost use Rattle.files.specs.Expansions.{expansion-of, expansion-file};
-ghost use Rattle.expand.specs.Expanded.{expand-answer, expanded, length-of-expansion};
+ghost use Rattle.expand.specs.Expanded.{expansion-rows, expand-answer, expanded, length-of-expansion};
 use contents::Opened;
 use format::open;
 use judge::judge_opened;
 use model::Length;
 use model::Verdict;
+use products::all_calls;
 use reading::byte;
 use reading::kinds::MOST_EXPANDED;
 use reading::kinds::PLACES;
@@ -30,16 +32,28 @@ fn file_length(plan: &[u8], records: u32) -> u32
     4 + 2 * (byte(plan, 1) as u32) + 4 + 8 * records + 2
 }
 
-// 16, 17, or accepted with the expansion's file written, where the judge accepts the plan and the places are those of its expansion.
+// 16 and 26, of an expansion of so many records.
+fn expansion_tests(plan: &[u8], o: Opened, records: u32) -> Verdict
+    requires { ⌜ DeclaredFile (now plan) × (o ≡ found (now plan)) × (records ≡ size (expansion-of (now plan) .body)) ⌝ }
+    ensures { λ v. ⌜ v ≡ answer-of (expansion-rows (now (plan .entry))) ⌝ }
+{
+    if MOST_EXPANDED < records {
+        return Verdict::Refused(16, 0);
+    }
+    all_calls(plan, o)
+}
+
+// 16, 26, 17, or accepted with the expansion's file written, where the judge accepts the plan and the places are those of its expansion.
 fn expand_placed(plan: &[u8], o: Opened, places: &[u32; PLACES], out: &mut [u8]) -> Verdict
     requires { ⌜ (Accepted ≡ judged (now plan)) × (o ≡ found (now plan)) × Places (now plan) (now places) ⌝ }
     ensures answer { λ r. ⌜ r ≡ expand-answer (now (plan .entry)) (now (out .entry)) ⌝ }
     ensures output { λ _. ⌜ now (out .exit) ≡ expanded (now (plan .entry)) (now (out .entry)) ⌝ }
 {
     let records = expansion_size(o, places);
-    if MOST_EXPANDED < records {
-        return Verdict::Refused(16, 0);
-    }
+    let tested = expansion_tests(plan, o, records);
+    let Verdict::Accepted = tested else {
+        return tested;
+    };
     if out.len() < (file_length(plan, records) as usize) {
         return Verdict::Refused(17, 0);
     }
@@ -47,7 +61,7 @@ fn expand_placed(plan: &[u8], o: Opened, places: &[u32; PLACES], out: &mut [u8])
     Verdict::Accepted
 }
 
-// The judge's answer, 16, 17, or accepted with the expansion's file written over the front of the output; opening has found the plan file to be o.
+// The judge's answer, 16, 26, 17, or accepted with the expansion's file written over the front of the output; opening has found the plan file to be o.
 pub fn expand_judged(plan: &[u8], o: Opened, out: &mut [u8], answer: Verdict) -> Verdict
     requires { ⌜ (o ≡ opened (now plan)) × (answer ≡ judged (now plan)) ⌝ }
     ensures answer { λ r. ⌜ r ≡ expand-answer (now (plan .entry)) (now (out .entry)) ⌝ }
@@ -99,9 +113,10 @@ pub fn expansion_length(plan: &[u8]) -> Length
         return no_length(answer);
     };
     let total = expansion_records(plan, o);
-    if MOST_EXPANDED < total {
-        return no_length(Verdict::Refused(16, 0));
-    }
+    let tested = expansion_tests(plan, o, total);
+    let Verdict::Accepted = tested else {
+        return no_length(tested);
+    };
     Length {
         verdict: Verdict::Accepted,
         bytes: file_length(plan, total),

@@ -22,6 +22,7 @@ then-fields Block.done b = refl
 then-fields (Block.act r x a) b = rw (then-fields a b)
 then-fields (Block.branch r x y a) b = rw (then-fields a b, append-assoc, append-assoc)
 then-fields (Block.loop r x a) b = rw (then-fields a b, append-assoc)
+then-fields (Block.fixed r n x a) b = rw (then-fields a b, append-assoc)
 
 given-fields : (m : Mode) (s : Side) (a : ℕ) (b : Block Action) → block-fields (given (declaration m s a) b) ≡ block-fields (given (declaration m s a) Block.done) ++ block-fields b
 given-fields R s a b = refl
@@ -47,9 +48,11 @@ numbered-size r Block.done = refl
 numbered-size r (Block.act q x b) = rw (numbered-size (suc r) b)
 numbered-size r (Block.branch q x y b) = rw (numbered-size (suc r) x, numbered-size (suc r + size x) y, numbered-size (suc r + size x + size y) b)
 numbered-size r (Block.loop q x b) = rw (numbered-size (suc r) x, numbered-size (suc r + size x) b)
+numbered-size r (Block.fixed q n x b) = rw (numbered-size (suc r) x, numbered-size (suc r + size x) b)
 
 pub numbered-fields : (r : ℕ) (b : Block Action) → block-fields (numbered r b) ≡ block-fields b
 numbered-fields r Block.done = refl
 numbered-fields r (Block.act q x b) = rw (numbered-fields (suc r) b)
 numbered-fields r (Block.branch q x y b) = rw (numbered-size (suc r) x, numbered-size (suc r + size x) y, numbered-fields (suc r) x, numbered-fields (suc r + size x) y, numbered-fields (suc r + size x + size y) b)
 numbered-fields r (Block.loop q x b) = rw (numbered-size (suc r) x, numbered-fields (suc r) x, numbered-fields (suc r + size x) b)
+numbered-fields r (Block.fixed q n x b) = rw (numbered-size (suc r) x, numbered-fields (suc r) x, numbered-fields (suc r + size x) b)

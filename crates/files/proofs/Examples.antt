@@ -1,14 +1,15 @@
--- Case 3 of document 01, byte for byte: it opens, it is that plan, and the plan's file is those bytes.
+-- Case 3 of document 01, byte for byte: it opens, it is that plan, and the plan's file is those bytes. The same of a plan with fixed loops
+-- (document 02, request a), and one whose product passes 4,096.
 use mathlib.Core.Path.{_≡_, refl}
 use mathlib.Core.List.{List, [], _∷_}
 use Prim.Native.Nat.{ℕ}
 use Rattle.model.specs.Lists.{sum-before}
-use Rattle.model.specs.declared.Verdict.the-variants.{Accepted}
-use Rattle.model.specs.Sides.{card}
-use Rattle.model.specs.Records.{read}
+use Rattle.model.specs.declared.Verdict.the-variants.{Accepted, Refused}
+use Rattle.model.specs.Sides.{host, card}
+use Rattle.model.specs.Records.{read, write}
 use Rattle.model.specs.Blocks.{Block, Plan}
 use Rattle.model.specs.Rows.{answer-of, all-rows}
-use Rattle.reading.specs.Bytes.{u16-at, table, length-at, entry-at, sizes-of, fields-at, first-arm, second-arm, lengths-of}
+use Rattle.reading.specs.Bytes.{u16-at, table, length-at, entry-at, sizes-of, fields-at, first-arm, second-arm, turns-of, lengths-of}
 use Rattle.sums.specs.Sums.{plain-sum, weighted-sum, check-bytes}
 use Rattle.frame.specs.Frame.{header-fits, header-rows, checks-fit, tail-rows}
 use Rattle.contents.specs.Contents.{array-rows, entry-rows, contents-rows, front-rows}
@@ -26,7 +27,7 @@ plan : Plan
 plan = record { layout = record { lengths = 1 ∷ [] }; body = Block.act 0 (record { verb = read; side = card; name = 0; p = 0; q = 1 }) Block.done }
 
 opens : opening bytes ≡ Accepted
-unfolding bytes answer-of all-rows u16-at length-at table lengths-of entry-at sizes-of fields-at sum-before plain-sum weighted-sum header-fits header-rows array-rows entry-rows contents-rows checks-fit tail-rows fields-fit allowed first-arm second-arm deepest record-rows block-rows body-rows front-rows open-rows opening
+unfolding bytes answer-of all-rows u16-at length-at table lengths-of entry-at sizes-of fields-at sum-before plain-sum weighted-sum header-fits header-rows array-rows entry-rows contents-rows checks-fit tail-rows fields-fit allowed first-arm second-arm turns-of deepest record-rows block-rows body-rows front-rows open-rows opening
 opens = refl
 
 is-plan : plan-of bytes ≡ plan
@@ -36,3 +37,36 @@ is-plan = refl
 is-file : plain-file plan ≡ bytes
 unfolding bytes plan file check-bytes plain-sum weighted-sum
 is-file = refl
+
+-- 64 turns that hold n turns that write the one cell on the host; the check bytes
+filling : ℕ → ℕ → ℕ → List ℕ
+filling n c d =
+    0x02 ∷ 0x01 ∷ 0x01 ∷ 0x00 ∷ 0x01 ∷ 0x00 ∷ 0x03 ∷ 0x00 ∷ 0x00 ∷ 0x00
+    ∷ 0x09 ∷ 0x00 ∷ 0x00 ∷ 0x00 ∷ 0x02 ∷ 0x00 ∷ 0x40 ∷ 0x00
+    ∷ 0x09 ∷ 0x00 ∷ 0x00 ∷ 0x00 ∷ 0x01 ∷ 0x00 ∷ n ∷ 0x00
+    ∷ 0x02 ∷ 0x00 ∷ 0x00 ∷ 0x00 ∷ 0x00 ∷ 0x00 ∷ 0x01 ∷ 0x00
+    ∷ c ∷ d ∷ []
+
+fill : Plan
+fill = record {
+  layout = record { lengths = 1 ∷ [] };
+  body = Block.fixed 0 63 (Block.fixed 1 63 (Block.act 2 (record { verb = write; side = host; name = 0; p = 0; q = 1 }) Block.done) Block.done) Block.done;
+}
+
+-- 64 × 64 is 4,096
+fill-opens : opening (filling 0x40 0xA0 0x77) ≡ Accepted
+unfolding filling answer-of all-rows u16-at length-at table lengths-of entry-at sizes-of fields-at sum-before plain-sum weighted-sum header-fits header-rows array-rows entry-rows contents-rows checks-fit tail-rows fields-fit allowed first-arm second-arm turns-of deepest record-rows block-rows body-rows front-rows open-rows opening
+fill-opens = refl
+
+fill-is-plan : plan-of (filling 0x40 0xA0 0x77) ≡ fill
+unfolding filling fill u16-at length-at table lengths-of entry-at sizes-of fields-at sum-before first-arm second-arm action-of block-of plan-of
+fill-is-plan = refl
+
+fill-is-file : plain-file fill ≡ filling 0x40 0xA0 0x77
+unfolding filling fill file check-bytes plain-sum weighted-sum
+fill-is-file = refl
+
+-- 64 × 65 passes it, at record 1
+fill-refused : opening (filling 0x41 0xA1 0x90) ≡ Refused 26 1
+unfolding filling answer-of all-rows u16-at length-at table lengths-of entry-at sizes-of fields-at sum-before plain-sum weighted-sum header-fits header-rows array-rows entry-rows contents-rows checks-fit tail-rows fields-fit allowed first-arm second-arm turns-of deepest record-rows block-rows body-rows front-rows open-rows opening
+fill-refused = refl

@@ -2,24 +2,26 @@
 use mathlib.Core.Path.{_≡_}
 use mathlib.Core.Bool.{Bool, true, false, cond, _&&_, false≢true}
 use mathlib.Core.List.{List, [], _∷_, _++_, map}
-use Prim.Native.Nat.{ℕ, zero, suc, _+_, _≤_, _<_}
+use Prim.Native.Nat.{ℕ, zero, suc, _+_, _*_, max, _≤_, _<_}
 use native.Mathlib.Omega.{arith}
+use native.Mathlib.Nat.{mul-le-mul-left, mul-le-mul-right, le-max-left, le-max-right}
 use lib.ListN.{length, length-map}
 use lib.Dec.{ltb, leb, eqb}
 use borrow.Author.Tests.{ltb-true, leb-true, eqb-true}
 use Rattle.model.specs.Lists.{All, sum, chain}
 use Rattle.model.specs.Sides.{Side, host, card, side-number, span-of, Layout, cell-count}
 use Rattle.model.specs.Records.{Verb, read, write, copy, need, mark, kind, whole, Action}
-use Rattle.model.specs.Blocks.{Block, size, Plan}
+use Rattle.model.specs.Blocks.{Block, size, largest, Plan}
 use Rattle.model.specs.Judging.{Mode, R, W, RW, Declaration, Pass, DeclaredPlan}
 use Rattle.model.proofs.Booleans.{and-out}
+use Rattle.model.proofs.Products.{largest-some}
 use Rattle.model.proofs.Numbering.{array-ends}
 use Rattle.reading.specs.declared.Fields.{Fields}
 use Rattle.sums.specs.Sums.{check-bytes}
 use Rattle.reading.specs.Bytes.{between}
 use Rattle.files.specs.Files.{u16-bytes, record-bytes, fields, action-fields, fields-of, Body, entry-bytes, front, file, plain-file}
 use Rattle.files.specs.Inner.Short.{block-fields, block-fits, passes-size}
-use Rattle.files.specs.Bounds.{all-pass, arrays-fit, cells-fit, action-fits, nested-within, plain-fits, pass-fits, declared-fits, call-fields, mode-kind, declaration-fields, pass-body, declared-file}
+use Rattle.files.specs.Bounds.{all-pass, arrays-fit, cells-fit, action-fits, nested-within, products-fit, plain-fits, pass-fits, declared-fits, call-fields, mode-kind, declaration-fields, pass-body, declared-file}
 use Rattle.files.specs.Claims.{Bytes}
 use Rattle.files.proofs.Files.Places.{body-size}
 use Rattle.files.proofs.Files.Accepting.{within-bounds}
@@ -118,24 +120,42 @@ cells-small false p q n h e =
 
 -- the records of a block whose leaves are small
 small-of : {A : Type 0} (leaf : A → Fields) (fits : A → Bool) → ((x : A) → fits x ≡ true → Small (leaf x)) →
-    (x : Block A) (levels : ℕ) → nested-within fits levels x ≡ true → size x ≤ 1024 → All Small (fields-of leaf x)
-small-of leaf fits one Block.done levels e h = tt
-small-of leaf fits one (Block.act _ x t) levels e h =
+    (x : Block A) (levels : ℕ) → nested-within fits levels x ≡ true → largest x ≤ 4096 → size x ≤ 1024 → All Small (fields-of leaf x)
+small-of leaf fits one Block.done levels e q h = tt
+small-of leaf fits one (Block.act _ x t) levels e q h =
     let fit = and-out (fits x) (nested-within fits levels t) e in
-    (one x (fit .0), small-of leaf fits one t levels (fit .1) (omega arith))
-small-of leaf fits one (Block.branch _ x y t) zero e h = absurd (false≢true e)
-small-of leaf fits one (Block.branch _ x y t) (suc levels) e h =
+    (one x (fit .0), small-of leaf fits one t levels (fit .1) q (omega arith))
+small-of leaf fits one (Block.branch _ x y t) zero e q h = absurd (false≢true e)
+small-of leaf fits one (Block.branch _ x y t) (suc levels) e q h =
+    let left = le-max-left (largest x) (max (largest y) (largest t)) in
+    let right = le-max-right (largest x) (max (largest y) (largest t)) in
+    let middle = le-max-left (largest y) (largest t) in
+    let last = le-max-right (largest y) (largest t) in
     let fit = and-out (nested-within fits levels x) (nested-within fits levels y && nested-within fits (suc levels) t) e in
     let fit′ = and-out (nested-within fits levels y) (nested-within fits (suc levels) t) (fit .1) in (
       small 6 0 0 (size x) (size y) (omega arith) (omega arith) (omega arith) (omega arith) (omega arith),
-      all-append Small (fields-of leaf x) (fields-of leaf y ++ fields-of leaf t) (small-of leaf fits one x levels (fit .0) (omega arith))
-          (all-append Small (fields-of leaf y) (fields-of leaf t) (small-of leaf fits one y levels (fit′ .0) (omega arith)) (small-of leaf fits one t (suc levels) (fit′ .1) (omega arith))),
+      all-append Small (fields-of leaf x) (fields-of leaf y ++ fields-of leaf t) (small-of leaf fits one x levels (fit .0) (omega arith) (omega arith))
+          (all-append Small (fields-of leaf y) (fields-of leaf t) (small-of leaf fits one y levels (fit′ .0) (omega arith) (omega arith)) (small-of leaf fits one t (suc levels) (fit′ .1) (omega arith) (omega arith))),
     )
-small-of leaf fits one (Block.loop _ x t) zero e h = absurd (false≢true e)
-small-of leaf fits one (Block.loop _ x t) (suc levels) e h =
+small-of leaf fits one (Block.loop _ x t) zero e q h = absurd (false≢true e)
+small-of leaf fits one (Block.loop _ x t) (suc levels) e q h =
+    let left = le-max-left (largest x) (largest t) in
+    let right = le-max-right (largest x) (largest t) in
     let fit = and-out (nested-within fits levels x) (nested-within fits (suc levels) t) e in (
       small 7 0 0 (size x) 0 (omega arith) (omega arith) (omega arith) (omega arith) (omega arith),
-      all-append Small (fields-of leaf x) (fields-of leaf t) (small-of leaf fits one x levels (fit .0) (omega arith)) (small-of leaf fits one t (suc levels) (fit .1) (omega arith)),
+      all-append Small (fields-of leaf x) (fields-of leaf t) (small-of leaf fits one x levels (fit .0) (omega arith) (omega arith)) (small-of leaf fits one t (suc levels) (fit .1) (omega arith) (omega arith)),
+    )
+small-of leaf fits one (Block.fixed _ n x t) zero e q h = absurd (false≢true e)
+small-of leaf fits one (Block.fixed _ n x t) (suc levels) e q h =
+    let left = le-max-left (suc n * largest x) (largest t) in
+    let right = le-max-right (suc n * largest x) (largest t) in
+    let some : 1 ≤ suc n = omega arith in
+    -- the product is at least each factor
+    let turns = mul-le-mul-left (suc n) (largest-some x) in
+    let inner = mul-le-mul-right (largest x) some in
+    let fit = and-out (nested-within fits levels x) (nested-within fits (suc levels) t) e in (
+      small 9 0 0 (size x) (suc n) (omega arith) (omega arith) (omega arith) (omega arith) (omega arith),
+      all-append Small (fields-of leaf x) (fields-of leaf t) (small-of leaf fits one x levels (fit .0) (omega arith) (omega arith)) (small-of leaf fits one t (suc levels) (fit .1) (omega arith) (omega arith)),
     )
 
 module _ (layout : Layout) (few : length (layout .lengths) ≤ 32) (total : cell-count layout ≤ 4096) where
@@ -148,7 +168,7 @@ module _ (layout : Layout) (few : length (layout .lengths) ≤ 32) (total : cell
       let c = cells-small (whole (x .verb)) (x .p) (x .q) (span-of layout (x .name) .length) (omega (arith, length-small layout (x .name))) (h .1) in
       array-small (kind (x .verb)) (x .side) (x .name) (x .p) (x .q) (kind-small (x .verb)) (h .0) (c .0) (c .1)
 
-  block-small : (x : Block Action) (levels : ℕ) → block-fits layout levels x ≡ true → size x ≤ 1024 → All Small (block-fields x)
+  block-small : (x : Block Action) (levels : ℕ) → block-fits layout levels x ≡ true → largest x ≤ 4096 → size x ≤ 1024 → All Small (block-fields x)
   block-small = small-of action-fields (action-fits layout) action-small
 
   declarations-small : (ds : List Declaration) → all-pass (λ (d : Declaration). ltb (d .array) (length (layout .lengths))) ds ≡ true → All Small (map declaration-fields ds)
@@ -162,17 +182,18 @@ module _ (layout : Layout) (few : length (layout .lengths) ≤ 32) (total : cell
   passes-told (p ∷ ps) e h =
       let (one, others) = and-out (pass-fits layout p) (all-pass (pass-fits layout) ps) e in
       let (few-declarations, fit) = and-out (leb (length (p .declarations)) 255) _ one in
-      let (of-arrays, block-fit) = and-out (all-pass (λ (d : Declaration). ltb (d .array) (length (layout .lengths))) (p .declarations)) _ fit in
+      let (of-arrays, fit′) = and-out (all-pass (λ (d : Declaration). ltb (d .array) (length (layout .lengths))) (p .declarations)) _ fit in
+      let (block-fit, products) = and-out (block-fits layout 8 (p .body)) _ fit′ in
       let told : Told (pass-body p) = record {
         few-declarations = omega (arith, leb-true (length (p .declarations)) 255 few-declarations);
         few-records = omega (arith, pass-count p);
         small =
             all-append Small (map declaration-fields (p .declarations)) (block-fields (p .body)) (declarations-small (p .declarations) of-arrays)
-            (block-small (p .body) 8 block-fit (omega arith));
+            (block-small (p .body) 8 block-fit (leb-true _ _ products) (omega arith));
       } in
       (told, passes-told ps others (omega arith))
 
-body0-small : (last : ℕ) → last ≤ 31 → (x : Block ℕ) (levels : ℕ) → nested-within (between 1 last) levels x ≡ true → size x ≤ 1024 → All Small (fields-of call-fields x)
+body0-small : (last : ℕ) → last ≤ 31 → (x : Block ℕ) (levels : ℕ) → nested-within (between 1 last) levels x ≡ true → largest x ≤ 4096 → size x ≤ 1024 → All Small (fields-of call-fields x)
 body0-small last l = small-of call-fields (between 1 last) (λ b e. let h = within-bounds 1 last b e in small 8 0 0 b 0 (omega arith) (omega arith) (omega arith) (omega (arith, h .1)) (omega arith))
 
 arrays-small : (layout : Layout) → arrays-fit layout ≡ true → (length (layout .lengths) ≤ 32) × (cell-count layout ≤ 4096)
@@ -183,14 +204,15 @@ arrays-small layout e =
 pub plain-bytes : (plan : Plan) → plain-fits plan ≡ true → Bytes (plain-file plan)
 plain-bytes plan fits =
     let (arrays-in, h) = and-out (arrays-fit (plan .layout)) _ fits in
-    let (block-in, few-records) = and-out (block-fits (plan .layout) 16 (plan .body)) _ h in
+    let (block-in, h′) = and-out (block-fits (plan .layout) 16 (plan .body)) _ h in
+    let (products, few-records) = and-out (products-fit (plan .body)) _ h′ in
     let (few, total) = arrays-small (plan .layout) arrays-in in
     let sized : size (plan .body) ≤ 1024 = leb-true _ _ few-records in
     file-bytes 2 (plan .layout) _ (omega arith) (omega arith) (omega arith) (lengths-small (plan .layout .lengths) total) (
       record {
         few-declarations = omega arith;
         few-records = omega (arith, fields-count (plan .body));
-        small = block-small (plan .layout) few total (plan .body) 16 block-in sized;
+        small = block-small (plan .layout) few total (plan .body) 16 block-in (leb-true _ _ products) sized;
       },
       tt,
     )
@@ -200,7 +222,8 @@ declared-bytes plan fits =
     let (arrays-in, h) = and-out (arrays-fit (plan .layout)) _ fits in
     let (few-passes, h′) = and-out (leb (length (plan .passes)) 31) _ h in
     let (body0-in, h″) = and-out (nested-within (between 1 (length (plan .passes))) 8 (plan .body0)) _ h′ in
-    let (passes-in, few-records) = and-out (all-pass (pass-fits (plan .layout)) (plan .passes)) _ h″ in
+    let (products, h‴) = and-out (products-fit (plan .body0)) _ h″ in
+    let (passes-in, few-records) = and-out (all-pass (pass-fits (plan .layout)) (plan .passes)) _ h‴ in
     let (few, total) = arrays-small (plan .layout) arrays-in in
     let last : length (plan .passes) ≤ 31 = leb-true _ _ few-passes in
     let sized : size (plan .body0) + passes-size (plan .passes) ≤ 1024 = leb-true _ _ few-records in
@@ -208,7 +231,7 @@ declared-bytes plan fits =
       record {
         few-declarations = omega arith;
         few-records = omega (arith, count-of call-fields (plan .body0));
-        small = body0-small (length (plan .passes)) last (plan .body0) 8 body0-in (omega arith);
+        small = body0-small (length (plan .passes)) last (plan .body0) 8 body0-in (leb-true _ _ products) (omega arith);
       },
       passes-told (plan .layout) few total (plan .passes) passes-in (omega arith),
     )

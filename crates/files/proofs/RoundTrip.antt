@@ -4,12 +4,12 @@ use mathlib.Core.Bool.{true}
 use mathlib.Core.List.{List, [], _∷_, map}
 use Prim.Native.Nat.{ℕ, suc, _+_, _*_, _-_, _≤_}
 use native.Mathlib.Omega.{arith}
-use native.Mathlib.Nat.{zero-add}
+use native.Mathlib.Nat.{zero-add, one-mul}
 use lib.ListN.{length, length-map}
 use lib.Dec.{leb}
 use borrow.Author.Tests.{eq-eqb, leb-true, le-leb}
 use Rattle.model.specs.declared.Verdict.the-variants.{Accepted}
-use Rattle.model.specs.Blocks.{size, Plan}
+use Rattle.model.specs.Blocks.{size, largest, Plan}
 use Rattle.model.specs.Judging.{DeclaredPlan}
 use Rattle.model.proofs.Booleans.{and-out, and-in}
 use Rattle.reading.specs.Bytes.{is-declared, is-plain, body-count, table, records-in, first-record, record-count, fields-at, between}
@@ -19,7 +19,7 @@ use Rattle.format.specs.Opening.{opening}
 use Rattle.format.specs.Plans.{pass-at, plan-of, declared-plan-of}
 use Rattle.files.specs.Files.{fields-of, Body, plain-file}
 use Rattle.files.specs.Inner.Short.{block-fields, block-fits, passes-size}
-use Rattle.files.specs.Bounds.{all-pass, arrays-fit, nested-within, plain-fits, pass-fits, declared-fits, numbered-passes, numbered-plan, numbered-declared, call-fields, pass-body, declared-file}
+use Rattle.files.specs.Bounds.{all-pass, arrays-fit, nested-within, products-fit, plain-fits, pass-fits, declared-fits, numbered-passes, numbered-plan, numbered-declared, call-fields, pass-body, declared-file}
 use Rattle.files.proofs.Files.Holding.{Along, none, more, Holds, head-of, tail-of, down, table-is}
 use Rattle.files.proofs.Files.Places.{Placed, Laid, laid}
 use Rattle.files.proofs.Files.Accepting.{Passes, opens}
@@ -55,23 +55,24 @@ module _ (plan : Plan) where
   plain-held : Holds (fields-at plain) 0 (block-fields (plan .body))
   plain-held = rw (plain-laid .start-is) at (plain-placed .held)
 
-  plain-records : block-fits (plan .layout) 16 (plan .body) ≡ true → Passes (body-rows plain 0)
+  plain-records : block-fits (plan .layout) 16 (plan .body) ≡ true → largest (plan .body) ≤ 4096 → Passes (body-rows plain 0)
   unfolding body-rows deepest allowed
-  plain-records fits =
+  plain-records fits product =
       let end : first-record plain 1 ≡ 0 + size (plan .body) = rw (plain-laid .start-is, fields-count (plan .body)) at (plain-placed .next) in
       let deep : deepest plain ≡ 15 = rw (plain-laid .kind-is) in
       rw (end, plain-laid .start-is)
-      (block-walks plain 0 0 (plan .layout) (plain-laid .arrayed) (λ r x k e. rw (plain-laid .kind-is, e)) (plan .body) 16 0 0 fits (omega arith) (omega arith) plain-held (records-in plain 0))
+      (block-walks plain 0 0 (plan .layout) (plain-laid .arrayed) (λ r x k e. rw (plain-laid .kind-is, e)) (plan .body) 16 0 1 0 fits (omega arith) (omega arith) (rw one-mul product) (omega arith) plain-held (records-in plain 0))
 
   pub plain-round-trip : plain-fits plan ≡ true → (opening (plain-file plan) ≡ Accepted) × (plan-of (plain-file plan) ≡ numbered-plan plan)
   unfolding plan-of
   plain-round-trip fits =
       let (arrays-in, h) = and-out (arrays-fit (plan .layout)) _ fits in
-      let (block-in, few-records) = and-out (block-fits (plan .layout) 16 (plan .body)) _ h in
+      let (block-in, h′) = and-out (block-fits (plan .layout) 16 (plan .body)) _ h in
+      let (products-in, few-records) = and-out (products-fit (plan .body)) _ h′ in
       let few : size (plan .body) ≤ 1024 = leb-true _ _ few-records in
       let read-back = rw zero-add at (block-reads (fields-at plain) (plan .body) (size (plan .body)) 0 (omega arith) plain-held) in (
         opens plain 2 (plan .layout) (plain-body ∷ []) plain-laid refl arrays-in refl refl (omega (arith, fields-count (plan .body)))
-            (more (record { declared = omega arith; none-first = refl }) none) (more (plain-records block-in) none),
+            (more (record { declared = omega arith; none-first = refl }) none) (more (plain-records block-in (leb-true _ _ products-in)) none),
         rw (plain-count, plain-laid .arrays-are, read-back),
       )
 
@@ -108,12 +109,12 @@ module _ (plan : DeclaredPlan) where
   counted-bodies : body-count declared ≡ suc (length (plan .passes))
   counted-bodies = rw (length-map (plan .passes) pass-body) at (declared-laid .body-count-is)
 
-  body0-records : nested-within (between 1 (length (plan .passes))) 8 (plan .body0) ≡ true → Passes (body-rows declared 0)
+  body0-records : nested-within (between 1 (length (plan .passes))) 8 (plan .body0) ≡ true → largest (plan .body0) ≤ 4096 → Passes (body-rows declared 0)
   unfolding body-rows deepest allowed
-  body0-records fits =
+  body0-records fits product =
       let deep : deepest declared ≡ 7 = rw (declared-laid .kind-is) in
       rw (passes-start, declared-laid .start-is)
-      (body0-walks declared (length (plan .passes)) counted-bodies (λ r x e. rw (declared-laid .kind-is, e)) (plan .body0) 8 0 0 fits (omega arith) (omega arith) held0 (records-in declared 0))
+      (body0-walks declared (length (plan .passes)) counted-bodies (λ r x e. rw (declared-laid .kind-is, e)) (plan .body0) 8 0 1 0 fits (omega arith) (omega arith) (rw one-mul product) (omega arith) held0 (records-in declared 0))
 
   passes-back : table (λ b. pass-at declared (suc b)) (body-count declared - 1) ≡ numbered-passes (size (plan .body0)) (plan .passes)
   passes-back =
@@ -128,7 +129,8 @@ module _ (plan : DeclaredPlan) where
       let (arrays-in, h) = and-out (arrays-fit (plan .layout)) _ fits in
       let (few-passes, h′) = and-out (leb (length (plan .passes)) 31) _ h in
       let (body0-in, h″) = and-out (nested-within (between 1 (length (plan .passes))) 8 (plan .body0)) _ h′ in
-      let (passes-in, few-records) = and-out (all-pass (pass-fits (plan .layout)) (plan .passes)) _ h″ in
+      let (products-in, h‴) = and-out (products-fit (plan .body0)) _ h″ in
+      let (passes-in, few-records) = and-out (all-pass (pass-fits (plan .layout)) (plan .passes)) _ h‴ in
       let few-bodies : length bodies ≤ 32 = omega (arith, leb-true (length (plan .passes)) 31 few-passes, length-map (plan .passes) pass-body) in
       let few : size (plan .body0) + passes-size (plan .passes) ≤ 1024 = leb-true _ _ few-records in
       let records-are : records-in declared 0 ≡ size (plan .body0) = placed0 .entry .records-are ∙ count-of call-fields (plan .body0) in
@@ -136,7 +138,7 @@ module _ (plan : DeclaredPlan) where
         opens declared 1 (plan .layout) bodies declared-laid refl arrays-in (and-in _ _ (le-leb 1 (length bodies) (omega arith)) (le-leb (length bodies) 32 few-bodies)) refl
             (omega (arith, count-of call-fields (plan .body0), passes-count (plan .passes)))
             (more (record { declared = omega arith; none-first = refl }) (passes-entries (plan .passes) 1 refl))
-            (more (body0-records body0-in)
+            (more (body0-records body0-in (leb-true _ _ products-in))
             (passes-walk declared (plan .layout) (declared-laid .kind-is) (declared-laid .arrayed) (plan .passes) 1 refl passes-in placed-passes)),
         rw (records-are, declared-laid .arrays-are, read-back, passes-back),
       )

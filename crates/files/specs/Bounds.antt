@@ -1,4 +1,4 @@
--- What only the claims cite: the file of a declared plan, and the plans that a file can hold (document 01, 'The plan file').
+-- What only the claims cite: the file of a declared plan, and the plans that a file can hold (document 01, 'The plan file'; document 02).
 use Prim.Native.Nat.{ℕ, zero, suc, _+_}
 use mathlib.Core.Bool.{Bool, true, false, cond, _&&_}
 use mathlib.Core.List.{List, [], _∷_, _++_, map}
@@ -7,7 +7,7 @@ use lib.Dec.{ltb, leb, eqb}
 use Rattle.model.specs.Lists.{sum}
 use Rattle.model.specs.Sides.{side-number, Layout, cell-count, span-of}
 use Rattle.model.specs.Records.{whole, Action}
-use Rattle.model.specs.Blocks.{Block, size, numbered, Plan}
+use Rattle.model.specs.Blocks.{Block, size, largest, numbered, Plan}
 use Rattle.model.specs.Judging.{Mode, R, W, RW, Declaration, Pass, DeclaredPlan}
 use Rattle.reading.specs.declared.Fields.{Fields}
 use Rattle.reading.specs.Bytes.{between}
@@ -27,7 +27,7 @@ mode-kind RW = 18
 abbrev pub declaration-fields : Declaration → Fields
 declaration-fields d = fields (mode-kind (d .mode)) (side-number (d .side)) (d .array) 0 0
 
--- a pass: "declarations first .. then kinds 1 to 7"
+-- a pass: "declarations first .. then kinds 1 to 7", and kind 9 "wherever kind 7 may stand"
 abbrev pub pass-body : Pass → Body
 pass-body p =
     record { declarations = length (p .declarations); records = map declaration-fields (p .declarations) ++ fields-of action-fields (p .body) }
@@ -63,17 +63,25 @@ nested-within fits (suc levels) (Block.branch r x y b) =
     nested-within fits levels x && (nested-within fits levels y && nested-within fits (suc levels) b)
 nested-within fits zero (Block.loop r x b) = false
 nested-within fits (suc levels) (Block.loop r x b) = nested-within fits levels x && nested-within fits (suc levels) b
+nested-within fits zero (Block.fixed r n x b) = false
+nested-within fits (suc levels) (Block.fixed r n x b) = nested-within fits levels x && nested-within fits (suc levels) b
+
+-- along no nesting "the product of the counts passes 4,096"
+abbrev pub products-fit : {A : Type 0} → Block A → Bool
+products-fit b = leb (largest b) 4096
 
 -- a plain plan: branches and loops stand "inside at most 15 others", "records .. together at most 1,024"
 abbrev pub plain-fits : Plan → Bool
-plain-fits plan = arrays-fit (plan .layout) && (nested-within (action-fits (plan .layout)) (suc 15) (plan .body) && leb (size (plan .body)) 1024)
+plain-fits plan =
+    arrays-fit (plan .layout)
+    && (nested-within (action-fits (plan .layout)) (suc 15) (plan .body) && (products-fit (plan .body) && leb (size (plan .body)) 1024))
 
 -- a pass: "its declarations (one byte)"; in a body of a declared plan branches and loops stand "inside at most 7" others
 abbrev pub pass-fits : Layout → Pass → Bool
 pass-fits layout p =
     leb (length (p .declarations)) 255
     && (all-pass (λ (d : Declaration). ltb (d .array) (length (layout .lengths))) (p .declarations)
-    && nested-within (action-fits layout) (suc 7) (p .body))
+    && (nested-within (action-fits layout) (suc 7) (p .body) && products-fit (p .body)))
 
 -- the records of a pass, its declarations among them
 abbrev pub pass-size : Pass → ℕ
@@ -85,7 +93,8 @@ declared-fits plan =
     arrays-fit (plan .layout)
     && (leb (length (plan .passes)) 31
     && (nested-within (between 1 (length (plan .passes))) (suc 7) (plan .body0)
-    && (all-pass (pass-fits (plan .layout)) (plan .passes) && leb (size (plan .body0) + sum (map pass-size (plan .passes))) 1024)))
+    && (products-fit (plan .body0)
+    && (all-pass (pass-fits (plan .layout)) (plan .passes) && leb (size (plan .body0) + sum (map pass-size (plan .passes))) 1024))))
 
 -- "Records are numbered from 0 through all bodies in order": the passes with their records numbered from r on
 abbrev pub numbered-passes : ℕ → List Pass → List Pass

@@ -1,5 +1,5 @@
 -- From a plain plan back to the bytes of its file (document 01, 'The plan file').
-use Prim.Native.Nat.{ℕ, zero, _/_, _%_}
+use Prim.Native.Nat.{ℕ, zero, suc, _/_, _%_}
 use mathlib.Core.List.{List, [], _∷_, _++_}
 use lib.ListN.{length}
 use Rattle.model.specs.Lists.{chain}
@@ -25,12 +25,13 @@ fields kind side array p q = record { kind = kind; side = side; array = array; z
 abbrev pub action-fields : Action → Fields
 action-fields x = fields (kind (x .verb)) (side-number (x .side)) (x .name) (x .p) (x .q)
 
--- "6 branch: P records of the first arm, then Q of the second. 7 loop: P records."; `leaf` gives the fields of any other record
+-- "6 branch: P records of the first arm, then Q of the second. 7 loop: P records.", 9 "P records, Q turns"; any other record by `leaf`
 abbrev pub fields-of : {A : Type 0} → (A → Fields) → Block A → List Fields
 fields-of leaf Block.done = []
 fields-of leaf (Block.act r x b) = leaf x ∷ fields-of leaf b
 fields-of leaf (Block.branch r x y b) = fields 6 0 0 (size x) (size y) ∷ (fields-of leaf x ++ (fields-of leaf y ++ fields-of leaf b))
 fields-of leaf (Block.loop r x b) = fields 7 0 0 (size x) 0 ∷ (fields-of leaf x ++ fields-of leaf b)
+fields-of leaf (Block.fixed r n x b) = fields 9 0 0 (size x) (suc n) ∷ (fields-of leaf x ++ fields-of leaf b)
 
 -- a body of a file: how many of its records are declarations, and its records
 pub record Body : Type 0 where

@@ -12,13 +12,13 @@ use borrow.Author.Tests.{eq-eqb, ne-eqb, ltb-true, leb-true}
 use Rattle.model.specs.Records.{Verb, read, write, copy, need, mark, Action}
 use Rattle.model.proofs.Booleans.{and-out}
 use Rattle.reading.specs.declared.Fields.{Fields}
-use Rattle.reading.specs.Bytes.{array-count, body-count, length-at, record-count, fields-at, first-arm, second-arm}
+use Rattle.reading.specs.Bytes.{array-count, body-count, length-at, record-count, fields-at, between, first-arm, second-arm}
 use Rattle.rules.specs.Rules.{fields-fit, allowed}
 use Rattle.format.specs.Plans.{side-of, action-of}
 use Rattle.format.specs.Inner.Walks.{Plain, Walkable}
 use Rattle.reading.proofs.Ranges.{of-range}
-use Rattle.rules.proofs.Fields.{Sizes, fit-cells, fit-array}
-use Rattle.format.proofs.Trees.{no-arms}
+use Rattle.rules.proofs.Fields.{Sizes, fit-cells, fit-array, fit-fixed}
+use Rattle.format.proofs.Trees.{ActsOrNests, acts-nests, low-leaf, no-arms}
 use Rattle.format.proofs.Walking.{good-parts, opened-facts, Steps, steps}
 
 module _ (f : List ℕ) (bodies : ℕ) (w : Plain f bodies) where
@@ -26,11 +26,11 @@ module _ (f : List ℕ) (bodies : ℕ) (w : Plain f bodies) where
   pub record-inside : (r : ℕ) → r < record-count f → bodies + 8 * r + 8 ≤ length f
   record-inside r h = omega (arith, w .place, opened-facts f (w .opens) .bounds .long)
 
-  -- "A plain plan holds kinds 1 to 7"
-  pub plain-kind : (r end : ℕ) → r < end → Walkable f r end → (1 ≤ fields-at f r .kind) × (fields-at f r .kind ≤ 7)
+  -- "A plain plan holds kinds 1 to 7", and kind 9 "wherever kind 7 may stand"
+  pub plain-kind : (r end : ℕ) → r < end → Walkable f r end → ActsOrNests (fields-at f r)
   unfolding allowed
   plain-kind r end h g =
-      of-range 1 7 _ (rw (w .plain) at (good-parts f (g .body) (g .depth) r end h (g .good) .tests .allows))
+      acts-nests (fields-at f r) (rw (w .plain) at (good-parts f (g .body) (g .depth) (g .around) r end h (g .good) .tests .allows))
 
 -- fields that keep their rules
 module _ (f : List ℕ) (x : Fields) (e : fields-fit f x ≡ true) where
@@ -59,22 +59,36 @@ module _ (f : List ℕ) (x : Fields) (e : fields-fit f x ≡ true) where
       let w₃ = and-out side array (and-out (side && array) (eqb (x .zero) 0) (w₂ .0) .0) in
       (omega (arith, ltb-true (x .side) 2 (w₃ .0)), ltb-true _ _ (w₃ .1))
 
+  -- "Q turns from 1 to 4,096"
+  pub turns-fit : x .kind ≡ 9 → (1 ≤ x .q) × (x .q ≤ 4096)
+  turns-fit k = of-range 1 4096 (x .q) (and-out (eqb (x .side) 0 && eqb (x .array) 0 && eqb (x .zero) 0) (between 1 4096 (x .q)) (fit-fixed f x _ _ _ sizes k ∙ e) .1)
+
   side-fits : 1 ≤ x .kind → x .kind ≤ 5 → x .side ≤ 1
   side-fits h k = elim (decLt 3 (x .kind)) [ yes l ↦ array-fits (omega arith) k .0 | no l ↦ cells-fit h (omega arith) .0 .0 ]
 
 -- what a walk knows of record r, whose fields x it has read
 pub record Here (f : List ℕ) (r end : ℕ) (x : Fields) : Type 0 where
   pub low : 1 ≤ x .kind
-  pub high : x .kind ≤ 7
+  pub high : x .kind ≤ 9
+  pub no-call : x .kind ≡ 8 → ⊥
   pub side : x .kind ≤ 5 → x .side ≤ 1
+  pub turns : x .kind ≡ 9 → (1 ≤ x .q) × (x .q ≤ 4096)
   pub steps : Steps f r end x
   pub few : end ≤ 1024
 
 pub here : (f : List ℕ) (bodies r end : ℕ) → Plain f bodies → r < end → end ≤ record-count f → Walkable f r end → (x : Fields) → x ≡ fields-at f r → Here f r end x
 here f bodies r end w h l g x e =
-    let k : (1 ≤ x .kind) × (x .kind ≤ 7) = rw e (plain-kind f bodies w r end h g) in
+    let k : ActsOrNests x = rw e (plain-kind f bodies w r end h g) in
     let s = steps f r end h g x e in
-    record { low = k .0; high = k .1; side = side-fits f x (s .fits) (k .0); steps = s; few = omega (arith, opened-facts f (w .opens) .bounds .records) }
+    record {
+      low = k .0;
+      high = k .1;
+      no-call = k .2;
+      side = side-fits f x (s .fits) (k .0);
+      turns = turns-fit f x (s .fits);
+      steps = s;
+      few = omega (arith, opened-facts f (w .opens) .bounds .records);
+    }
 
 -- its arms of i and j records, and what comes after them
 pub record Arms (f : List ℕ) (r end i j : ℕ) : Type 0 where
@@ -89,7 +103,7 @@ arms s i j e g = rw (e, g) (record { inside = s .inside; one = s .one; two = s .
 -- a record of kind 1 to 5 has none
 pub after-act : {f : List ℕ} {r end : ℕ} {x : Fields} → Steps f r end x → x .kind ≤ 5 → Walkable f (r + 1) end
 after-act {r = r} {x = x} s k =
-    let a = no-arms x (λ z. omega arith) (λ z. omega arith) in
+    let a = no-arms x (low-leaf x k) in
     let n : r + 1 + first-arm x + second-arm x ≡ r + 1 = omega (arith, a) in
     rw n at (s .rest)
 

@@ -2,14 +2,14 @@
 use mathlib.Core.Path.{_≡_, ap, sym, _∙_}
 use mathlib.Core.Bool.{true}
 use mathlib.Core.List.{List}
-use Prim.Native.Nat.{ℕ, zero, suc, _+_, _≤_, _<_}
+use Prim.Native.Nat.{ℕ, zero, suc, _+_, _*_, _≤_, _<_}
 use native.Mathlib.Omega.{arith}
 use borrow.Author.Tests.{lt-ltb}
 use Rattle.model.specs.declared.Verdict.the-variants.{Accepted}
 use Rattle.reading.specs.declared.Fields.{Fields}
 use Rattle.contents.specs.declared.Opened.{Opened}
 use Rattle.model.specs.Rows.{answer-of}
-use Rattle.reading.specs.Bytes.{body-count, records-in, first-record, fields-at, first-arm, second-arm}
+use Rattle.reading.specs.Bytes.{body-count, records-in, first-record, fields-at, first-arm, second-arm, turns-of}
 use Rattle.rules.specs.Rules.{fields-fit, record-rows}
 use Rattle.records.specs.Records.{block-rows, body-rows}
 use Rattle.format.specs.Opening.{opening, opened}
@@ -36,10 +36,10 @@ module _ (f : List ℕ) (o : Opened) (e : o ≡ opened f) where
 -- what holds of a file that opens
 pub record Facts (f : List ℕ) : Type 0 where
   pub bounds : Bounds f
-  pub good : (b : ℕ) → b < body-count f → Good f b 0 (first-record f b) (first-record f (suc b))
+  pub good : (b : ℕ) → b < body-count f → Good f b 0 1 (first-record f b) (first-record f (suc b))
 
 module _ (f : List ℕ) where
-  body-good : (b : ℕ) → b < body-count f → Accepted ≡ answer-of (body-rows f b) → Good f b 0 (first-record f b) (first-record f (suc b))
+  body-good : (b : ℕ) → b < body-count f → Accepted ≡ answer-of (body-rows f b) → Good f b 0 1 (first-record f b) (first-record f (suc b))
   unfolding body-rows
   body-good b l e = record { fuel = records-in f b; enough = omega (arith, next-record f b l); passes = e }
 
@@ -49,22 +49,23 @@ module _ (f : List ℕ) where
       record { bounds = bounds-of f (p .0); good = λ b l. body-good b l (each-passed (body-rows f) (body-count f) b (p .1) l) }
 
 -- the first record of a good block: its tests, and what comes after it is good again
-pub record Parts (f : List ℕ) (b depth r end : ℕ) : Type 0 where
-  pub tests : Tests f b depth r end
-  pub one : Good f b (depth + 1) (r + 1) (r + 1 + first-arm (fields-at f r))
-  pub two : Good f b (depth + 1) (r + 1 + first-arm (fields-at f r)) (r + 1 + first-arm (fields-at f r) + second-arm (fields-at f r))
-  pub rest : Good f b depth (r + 1 + first-arm (fields-at f r) + second-arm (fields-at f r)) end
+pub record Parts (f : List ℕ) (b depth around r end : ℕ) : Type 0 where
+  pub tests : Tests f b depth around r end
+  pub one : Good f b (depth + 1) (around * turns-of (fields-at f r)) (r + 1) (r + 1 + first-arm (fields-at f r))
+  pub two : Good f b (depth + 1) (around * turns-of (fields-at f r)) (r + 1 + first-arm (fields-at f r)) (r + 1 + first-arm (fields-at f r) + second-arm (fields-at f r))
+  pub rest : Good f b depth around (r + 1 + first-arm (fields-at f r) + second-arm (fields-at f r)) end
 
-module _ (f : List ℕ) (b depth r end : ℕ) (h : r < end) where
-  parts : (fuel : ℕ) → end ≤ r + fuel → Accepted ≡ answer-of (block-rows fuel f b depth r end) → Parts f b depth r end
+module _ (f : List ℕ) (b depth around r end : ℕ) (h : r < end) where
+  parts : (fuel : ℕ) → end ≤ r + fuel → Accepted ≡ answer-of (block-rows fuel f b depth around r end) → Parts f b depth around r end
   unfolding block-rows
   parts zero l e = absurd (omega arith)
   parts (suc n) l e =
       let second = r + 1 + first-arm (fields-at f r) in
-      let p = passed (record-rows f b depth r end) _ (rw (lt-ltb _ _ h) at e) in
-      let q = passed (block-rows n f b (depth + 1) (r + 1) second) _ (p .1) in
-      let s = passed (block-rows n f b (depth + 1) second (second + second-arm (fields-at f r))) _ (q .1) in
-      let t = tests-of f b depth r end (p .0) in
+      let within = around * turns-of (fields-at f r) in
+      let p = passed (record-rows f b depth around r end) _ (rw (lt-ltb _ _ h) at e) in
+      let q = passed (block-rows n f b (depth + 1) within (r + 1) second) _ (p .1) in
+      let s = passed (block-rows n f b (depth + 1) within second (second + second-arm (fields-at f r))) _ (q .1) in
+      let t = tests-of f b depth around r end (p .0) in
       record {
         tests = t;
         one = record { fuel = n; enough = omega (arith, t .inside); passes = q .0 };
@@ -72,10 +73,10 @@ module _ (f : List ℕ) (b depth r end : ℕ) (h : r < end) where
         rest = record { fuel = n; enough = omega (arith, t .inside); passes = s .1 };
       }
 
-  pub good-parts : Good f b depth r end → Parts f b depth r end
+  pub good-parts : Good f b depth around r end → Parts f b depth around r end
   good-parts g = parts (g .fuel) (g .enough) (g .passes)
 
--- the same whatever the body and the depth, for a walker that has read the record's fields x
+-- the same whatever the body, the depth and that product, for a walker that has read the record's fields x
 pub record Steps (f : List ℕ) (r end : ℕ) (x : Fields) : Type 0 where
   pub fits : fields-fit f x ≡ true
   pub inside : r + 1 + first-arm x + second-arm x ≤ end
@@ -84,11 +85,11 @@ pub record Steps (f : List ℕ) (r end : ℕ) (x : Fields) : Type 0 where
   pub rest : Walkable f (r + 1 + first-arm x + second-arm x) end
 
 pub steps : (f : List ℕ) (r end : ℕ) → r < end → Walkable f r end → (x : Fields) → x ≡ fields-at f r → Steps f r end x
-steps f r end h w x e = rw e (let p = good-parts f (w .body) (w .depth) r end h (w .good) in
+steps f r end h w x e = rw e (let p = good-parts f (w .body) (w .depth) (w .around) r end h (w .good) in
     record {
       fits = p .tests .fits;
       inside = p .tests .inside;
-      one = record { body = w .body; depth = w .depth + 1; good = p .one };
-      two = record { body = w .body; depth = w .depth + 1; good = p .two };
-      rest = record { body = w .body; depth = w .depth; good = p .rest };
+      one = record { body = w .body; depth = w .depth + 1; around = _; good = p .one };
+      two = record { body = w .body; depth = w .depth + 1; around = _; good = p .two };
+      rest = record { body = w .body; depth = w .depth; around = w .around; good = p .rest };
     })

@@ -27,7 +27,7 @@ unfoldable pub declaration-of : Fields → Declaration
 declaration-of x = record { mode = cond (eqb (x .kind) 16) R (cond (eqb (x .kind) 17) W RW); side = side-of (x .side); array = x .array }
 
 -- the block of the records r up to `end`, where record r has the fields `g r`, and `leaf` says what a record is that is neither branch nor
--- loop: an action or a call (`fuel` is at least the number of records)
+-- loop: an action or a call (`fuel` is at least the number of records); of the "Q turns" of a fixed loop Q − 1 come after the first
 unfoldable pub block-of : {A : Type 0} → (Fields → A) → ℕ → (ℕ → Fields) → ℕ → ℕ → Block A
 block-of leaf zero g r end = Block.done
 block-of leaf (suc fuel) g r end =
@@ -37,7 +37,8 @@ block-of leaf (suc fuel) g r end =
     cond (ltb r end)
     (cond (eqb (g r .kind) 6) (Block.branch r (block-of leaf fuel g (r + 1) second) (block-of leaf fuel g second next) rest)
     (cond (eqb (g r .kind) 7) (Block.loop r (block-of leaf fuel g (r + 1) second) rest)
-    (Block.act r (leaf (g r)) rest)))
+    (cond (eqb (g r .kind) 9) (Block.fixed r (g r .q - 1) (block-of leaf fuel g (r + 1) second) rest)
+    (Block.act r (leaf (g r)) rest))))
     Block.done
 
 -- body b as a pass: "declarations first, as many as the contents say", then its other records

@@ -17,10 +17,11 @@ use Rattle.model.specs.Judging.{R, W, RW, Declaration, permits, every-record, d
 use Rattle.model.specs.Inner.Declared.{declares}
 use Rattle.reading.specs.declared.Fields.{Fields}
 use Rattle.model.specs.Rows.{row, answer-of, all-rows}
-use Rattle.reading.specs.Bytes.{is-declared, body-count, layout-of, records-in, declarations-in, first-record, bodies-at, fields-at, between}
+use Rattle.reading.specs.Bytes.{is-declared, body-count, layout-of, records-in, declarations-in, first-record, bodies-at, fields-at, between, nests}
 use Rattle.format.specs.Opening.{open-rows, opening}
 use Rattle.format.specs.Plans.{side-of, action-of, declaration-of, pass-at, declared-plan-of}
 use Rattle.format.proofs.Acts.{acting}
+use Rattle.format.proofs.Trees.{ActsOrNests, acts, low-leaf}
 use Rattle.reading.proofs.Ranges.{in-range, out-of-range}
 use Rattle.model.proofs.Booleans.{and-out}
 use Rattle.model.proofs.Demand.Declarations.{barred}
@@ -65,25 +66,19 @@ w-kind k = elim (ℕᴺ-discrete k 17) [
     other false z = let n : _≡_ {A = ℕ} 0 1 = cc in omega arith
 
 -- numbers 13 and 14 of a record with the fields x
-use-kept : (ds : List Declaration) (x : Fields) (r : ℕ) → 1 ≤ x .kind → x .kind ≤ 7 →
+use-kept : (ds : List Declaration) (x : Fields) (r : ℕ) → ActsOrNests x →
     (Accepted ≡ answer-of (row (between 1 2 (x .kind) && not (permits ds (action-of x))) 13 r ∷ row (between 3 5 (x .kind)) 14 r ∷ []))
-    ↔ ((x .kind ≡ 6 → ⊥) → (x .kind ≡ 7 → ⊥) → permits ds (action-of x) ≡ true)
-use-kept ds x r low high = elim (decLt (x .kind) 3) [
+    ↔ (nests x ≡ false → permits ds (action-of x) ≡ true)
+use-kept ds x r kind = elim (decLt (x .kind) 3) [
   | yes h ↦ (
-    λ e p q. not-false _ (rw (in-range 1 2 (x .kind) low (omega arith)) at (skipped _ _ _ _ e .0)),
-    λ t. skips _ _ _ _ _ (rw (t (λ z. omega arith) (λ z. omega arith)) (and-false (between 1 2 (x .kind)))) (skips _ _ _ _ _ (out-of-range 3 5 (x .kind) (λ u v. omega arith)) empty),
+    λ e p. not-false _ (rw (in-range 1 2 (x .kind) (kind .0) (omega arith)) at (skipped _ _ _ _ e .0)),
+    λ t. skips _ _ _ _ _ (rw (t (low-leaf x (omega arith))) (and-false (between 1 2 (x .kind)))) (skips _ _ _ _ _ (out-of-range 3 5 (x .kind) (λ u v. omega arith)) empty),
   )
   | no h ↦ (
-    λ e p q. absurd (true≢false (sym (in-range 3 5 (x .kind) (omega arith) (below p q)) ∙ skipped _ _ _ _ (skipped _ _ _ _ e .1) .0)),
-    λ t. skips _ _ _ _ _ (rw (out-of-range 1 2 (x .kind) (λ u v. omega arith))) (skips _ _ _ _ _ (out-of-range 3 5 (x .kind) (λ u v. true≢false (sym (t (λ z. omega arith) (λ z. omega arith)) ∙ kind-barred ds x u))) empty),
+    λ e p. absurd (true≢false (sym (in-range 3 5 (x .kind) (omega arith) (acts x kind p .1)) ∙ skipped _ _ _ _ (skipped _ _ _ _ e .1) .0)),
+    λ t. skips _ _ _ _ _ (rw (out-of-range 1 2 (x .kind) (λ u v. omega arith))) (skips _ _ _ _ _ (out-of-range 3 5 (x .kind) (λ u v. true≢false (sym (t (low-leaf x v)) ∙ kind-barred ds x u))) empty),
   )
 ]
-  where
-    below : (x .kind ≡ 6 → ⊥) → (x .kind ≡ 7 → ⊥) → x .kind ≤ 5
-    below p q = elim (ℕᴺ-discrete (x .kind) 6) [
-      | yes z ↦ absurd (p z)
-      | no z ↦ elim (ℕᴺ-discrete (x .kind) 7) [ yes y ↦ absurd (q y) | no y ↦ omega arith ]
-    ]
 
 -- pass b of a declared plan that opens, number by number
 module _ (f : List ℕ) (a : Accepted ≡ opening f) (k : is-declared f ≡ true) (b : ℕ) (low : 1 ≤ b) (high : b < body-count f) where
@@ -105,7 +100,7 @@ module _ (f : List ℕ) (a : Accepted ≡ opening f) (k : is-declared f ≡ true
   unfolding permit-rows
   record-kept i h l =
       let k = other-kind f extent here i h l in
-      rw (le-ltb i (declarations-in f b) h) (use-kept (pass-at f b .declarations) (fields-at f (first-record f b + i)) (first-record f b + i) (k .0) (k .1))
+      rw (le-ltb i (declarations-in f b) h) (use-kept (pass-at f b .declarations) (fields-at f (first-record f b + i)) (first-record f b + i) k)
 
   uses-kept : ((i : ℕ) → declarations-in f b ≤ i → i < records-in f b → Accepted ≡ answer-of (permit-rows f b i)) ↔ (every-record (permits (pass-at f b .declarations)) (pass-at f b .body) ≡ true)
   uses-kept =

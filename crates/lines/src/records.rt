@@ -5,9 +5,8 @@ use console::page::Page;
 use console::page::indent;
 use console::page::row;
 use reading::Fields;
-use reading::kinds::BRANCH;
 use reading::kinds::COPY;
-use reading::kinds::LOOP;
+use reading::kinds::FIXED;
 use reading::kinds::MARK;
 use reading::kinds::NEED;
 use reading::kinds::R;
@@ -15,10 +14,11 @@ use reading::kinds::READ;
 use reading::kinds::RW;
 use reading::kinds::W;
 use reading::kinds::WRITE;
+use reading::nests;
 
-// The number of a record, what it is by its kind, and the body that it calls; behind a row that does not end its line stands where the record acts. Then
-// the line for an arm that is empty, and the line before a second arm.
-const LINES: [u8; 142] = *b"
+// The number of a record, what it is by its kind, and the body that it calls or its turns; behind a row that does not end its line stands where the
+// record acts. Then a fixed loop of one turn, the line for an arm that is empty, and the line before a second arm.
+const LINES: [u8; 193] = *b"
 01 # read
 02 # write
 03 # copy to
@@ -27,21 +27,39 @@ const LINES: [u8; 142] = *b"
 06 # branch|
 07 # loop|
 08 # call body #|
+09 # fixed loop, # turns|
 16 # R
 17 # W
 18 # RW
+89 # fixed loop, # turn|
 90   nothing|
 91 else|
 ";
+
+const ONE_TURN: u8 = 89;
 
 const EMPTY: u8 = 90;
 
 const ELSE: u8 = 91;
 
-// Row k, so many levels in, with the number of a record and of a body.
-fn line(page: &mut Page, at: usize, level: usize, k: u8, r: u16, body: u16) -> usize {
+// Row k, so many levels in, with the number of a record and the number behind its words.
+fn line(page: &mut Page, at: usize, level: usize, k: u8, r: u16, n: u16) -> usize {
     let at = indent(page, at, level);
-    row(page, at, &LINES, k, &[r as u64, body as u64])
+    row(page, at, &LINES, k, &[r as u64, n as u64])
+}
+
+// The row for a record with these fields.
+fn kind_row(x: Fields) -> u8 {
+    if (x.kind == FIXED) & (x.q == 1) {
+        ONE_TURN
+    } else {
+        x.kind
+    }
+}
+
+// The number behind its words: the turns of a fixed loop, the body of a call.
+fn kind_number(x: Fields) -> u16 {
+    if x.kind == FIXED { x.q } else { x.p }
 }
 
 // Where a record acts: on the host, or from row 10 on the card, on a whole array, on one cell or on several.
@@ -87,9 +105,9 @@ fn place_words(page: &mut Page, at: usize, x: Fields) -> usize {
     )
 }
 
-// The line that stands for the first arm of a branch or the arm of a loop, where it is empty.
+// The line that stands for the first arm of a branch or the arm of a loop, fixed or not, where it is empty.
 fn empty_line(page: &mut Page, at: usize, level: usize, x: Fields) -> usize {
-    if (BRANCH <= x.kind) & (x.kind <= LOOP) & (x.p == 0) {
+    if nests(x) & (x.p == 0) {
         return line(page, at, level, EMPTY, 0, 0);
     }
     at
@@ -97,7 +115,7 @@ fn empty_line(page: &mut Page, at: usize, level: usize, x: Fields) -> usize {
 
 // The lines of record r.
 pub fn record_lines(page: &mut Page, at: usize, level: usize, r: u16, x: Fields) -> usize {
-    let at = line(page, at, level, x.kind, r, x.p);
+    let at = line(page, at, level, kind_row(x), r, kind_number(x));
     let at = place_words(page, at, x);
     empty_line(page, at, level, x)
 }

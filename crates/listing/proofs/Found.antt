@@ -97,7 +97,7 @@ module _ (f : List ℕ) (o : Opened) (a : Accepted ≡ opening f) (e : o ≡ fou
         record {
           entry = record { low = omega (arith, w .header .bodies); rises = omega arith };
           few = omega (arith, w .records, first-rises (sizes-of f) (b + 1) (body-count f) (omega arith));
-          lists = rw (is-body, size, here) (record { long = long; plan = f; walks = moved (first-record f b + 0) (first-record f b + records-in f b) (omega arith) (next-record f b l) (record { body = b; depth = 0; good = opened-facts f a .good b l }); same = record-near f b });
+          lists = rw (is-body, size, here) (record { long = long; plan = f; walks = moved (first-record f b + 0) (first-record f b + records-in f b) (omega arith) (next-record f b l) (record { body = b; depth = 0; around = 1; good = opened-facts f a .good b l }); same = record-near f b });
         }
 
 -- what is known of record r's arms once they are read

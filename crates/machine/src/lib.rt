@@ -19,11 +19,11 @@ use standing::Machine;
 use standing::Stepped;
 use standing::acted_on;
 use standing::after;
+use standing::lead;
 use standing::over;
 use standing::tally_after;
-use standing::test;
 
-// One step of the definition of a run: a record, a branch, a test of a loop, or the end. The tally goes through it by value.
+// One step of the definition of a run: a record, a branch, a test of a loop, a turn of a fixed loop, or the end. The tally goes through it by value.
 pub fn step(
     m: Machine,
     plan: &[u8],
@@ -35,7 +35,7 @@ pub fn step(
     t: Tally,
 ) -> Stepped
     requires { ⌜ (m .running ≡ true) × Stood (now plan) (now choices) (runner m (now room)) (now host) (now card) (now latest) t ⌝ }
-    ensures { λ r. ⌜ Steps (now (plan .entry)) (now (choices .entry)) (runner m (now (room .entry))) (now (host .entry)) (now (card .entry)) (now (latest .entry)) t (runner (r .machine) (now (room .exit))) (now (host .exit)) (now (card .exit)) (now (latest .exit)) (r .tally) × (measure (length (now (choices .entry))) (runner (r .machine) (now (room .exit))) < measure (length (now (choices .entry))) (runner m (now (room .entry)))) × Same (cell-count (layout-of (now (plan .entry)))) (now (host .entry)) (now (host .exit)) × Same (cell-count (layout-of (now (plan .entry)))) (now (card .entry)) (now (card .exit)) × Same (cell-count (layout-of (now (plan .entry)))) (now (latest .entry)) (now (latest .exit)) ⌝ }
+    ensures { λ r. ⌜ Steps (now (plan .entry)) (now (choices .entry)) (runner m (now (room .entry))) (now (host .entry)) (now (card .entry)) (now (latest .entry)) t (runner (r .machine) (now (room .exit))) (now (host .exit)) (now (card .exit)) (now (latest .exit)) (r .tally) × (measure (now (plan .entry)) (length (now (choices .entry))) (runner (r .machine) (now (room .exit))) < measure (now (plan .entry)) (length (now (choices .entry))) (runner m (now (room .entry)))) × Same (cell-count (layout-of (now (plan .entry)))) (now (host .entry)) (now (host .exit)) × Same (cell-count (layout-of (now (plan .entry)))) (now (card .entry)) (now (card .exit)) × Same (cell-count (layout-of (now (plan .entry)))) (now (latest .entry)) (now (latest .exit)) ⌝ }
 {
     let p = m.place;
     if p.at == p.end {
@@ -44,7 +44,7 @@ pub fn step(
     let x = record_at(plan, m.bodies, p.at);
     if BRANCH <= x.kind {
         return Stepped {
-            machine: test(m, x, choices, room),
+            machine: lead(m, x, choices, room),
             tally: t,
         };
     }
@@ -73,7 +73,7 @@ pub fn step_lent(
     tally: &mut Tally,
 ) -> Machine
     requires { ⌜ (m .running ≡ true) × Stood (now plan) (now choices) (runner m (now room)) (now host) (now card) (now latest) (now tally) ⌝ }
-    ensures { λ r. ⌜ Steps (now (plan .entry)) (now (choices .entry)) (runner m (now (room .entry))) (now (host .entry)) (now (card .entry)) (now (latest .entry)) (now (tally .entry)) (runner r (now (room .exit))) (now (host .exit)) (now (card .exit)) (now (latest .exit)) (now (tally .exit)) × (measure (length (now (choices .entry))) (runner r (now (room .exit))) < measure (length (now (choices .entry))) (runner m (now (room .entry)))) × Same (cell-count (layout-of (now (plan .entry)))) (now (host .entry)) (now (host .exit)) × Same (cell-count (layout-of (now (plan .entry)))) (now (card .entry)) (now (card .exit)) × Same (cell-count (layout-of (now (plan .entry)))) (now (latest .entry)) (now (latest .exit)) ⌝ }
+    ensures { λ r. ⌜ Steps (now (plan .entry)) (now (choices .entry)) (runner m (now (room .entry))) (now (host .entry)) (now (card .entry)) (now (latest .entry)) (now (tally .entry)) (runner r (now (room .exit))) (now (host .exit)) (now (card .exit)) (now (latest .exit)) (now (tally .exit)) × (measure (now (plan .entry)) (length (now (choices .entry))) (runner r (now (room .exit))) < measure (now (plan .entry)) (length (now (choices .entry))) (runner m (now (room .entry)))) × Same (cell-count (layout-of (now (plan .entry)))) (now (host .entry)) (now (host .exit)) × Same (cell-count (layout-of (now (plan .entry)))) (now (card .entry)) (now (card .exit)) × Same (cell-count (layout-of (now (plan .entry)))) (now (latest .entry)) (now (latest .exit)) ⌝ }
 {
     let r = step(m, plan, choices, host, card, latest, room, *tally);
     *tally = r.tally;

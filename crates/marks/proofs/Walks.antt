@@ -20,7 +20,7 @@ use Rattle.format.specs.Inner.Walks.{Walkable}
 use Rattle.format.proofs.Walking.{steps}
 use Rattle.format.proofs.Acts.{cells-fit, Arms, arms, acting}
 use Rattle.reading.proofs.Tables.{array-length}
-use Rattle.format.proofs.Trees.{block-none, block-branch, block-loop, block-act}
+use Rattle.format.proofs.Trees.{no-nesting, block-none, block-branch, block-loop, block-fixed, block-act}
 use Rattle.marks.specs.Inner.Marks.{marked, Adds, Tables, hits, always}
 
 -- a side, by its number in the file
@@ -66,11 +66,15 @@ module _ (f starts sides : List ℕ) (t : Tables f starts sides) where
     unfolding always
     at-branch n c = rw (h .one, h .two, block-branch f r end (h .less) (h .walk) x (h .fields) n)
 
-    at-other : (x .kind ≡ 6 → ⊥) → (c : ℕ) → always f sides r end c ≡ (writes-cell (layout-of f) (side-at c) c (action-of x) || always f sides (r + 1 + i + j) end c)
+    at-fixed : x .kind ≡ 9 → (c : ℕ) → always f sides r end c ≡ (always f sides (r + 1) (r + 1 + i) c || always f sides (r + 1 + i + j) end c)
     unfolding always
-    at-other n c = elim (ℕᴺ-discrete (x .kind) 7) [
+    at-fixed n c = rw (h .one, h .two, block-fixed f r end (h .less) (h .walk) x (h .fields) n)
+
+    at-other : (x .kind ≡ 6 → ⊥) → (x .kind ≡ 9 → ⊥) → (c : ℕ) → always f sides r end c ≡ (writes-cell (layout-of f) (side-at c) c (action-of x) || always f sides (r + 1 + i + j) end c)
+    unfolding always
+    at-other n k c = elim (ℕᴺ-discrete (x .kind) 7) [
       | yes m ↦ rw (h .one, h .two, no-write (layout-of f) (side-at c) c x (λ z. omega arith), block-loop f r end (h .less) (h .walk) x (h .fields) m)
-      | no m ↦ rw (h .one, h .two, block-act f r end (h .less) (h .walk) x (h .fields) n m)
+      | no m ↦ rw (h .one, h .two, block-act f r end (h .less) (h .walk) x (h .fields) (no-nesting x n m k))
     ]
 
     -- what a write says of its cells
@@ -109,5 +113,8 @@ module _ (f starts sides : List ℕ) (t : Tables f starts sides) where
         marks = λ c l. w .marks c l ∙ rw (m .marks c l, rw (z c) at (u .marks c l), rw (z c) at (v .marks c l), at-branch k c) (or-assoc (marked before c) _ _);
       }
 
-      pub adds-other : (x .kind ≡ 6 → ⊥) → Adds before now (hits starts sides x) → Adds before after (always f sides r end)
-      adds-other k m = record { size = w .size; marks = λ c l. w .marks c l ∙ rw (m .marks c l, at-other k c, record-hits c) (or-assoc (marked before c) _ _) }
+      pub adds-fixed : x .kind ≡ 9 → Adds before now (always f sides (r + 1) (r + 1 + i)) → Adds before after (always f sides r end)
+      adds-fixed k m = record { size = w .size; marks = λ c l. w .marks c l ∙ rw (m .marks c l, at-fixed k c) (or-assoc (marked before c) _ _) }
+
+      pub adds-other : (x .kind ≡ 6 → ⊥) → (x .kind ≡ 9 → ⊥) → Adds before now (hits starts sides x) → Adds before after (always f sides r end)
+      adds-other k n m = record { size = w .size; marks = λ c l. w .marks c l ∙ rw (m .marks c l, at-other k n c, record-hits c) (or-assoc (marked before c) _ _) }

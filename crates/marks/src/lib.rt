@@ -12,6 +12,7 @@ use reading::cells_of;
 use reading::first_arm;
 use reading::kinds::BRANCH;
 use reading::kinds::CELLS;
+use reading::kinds::FIXED;
 use reading::kinds::NAMES;
 use reading::kinds::STARTS;
 use reading::kinds::W;
@@ -82,6 +83,8 @@ pub fn mark_written(
             mark_written(plan, bodies, starts, sides, &mut one, at + 1, second);
             mark_written(plan, bodies, starts, sides, &mut two, second, next);
             mark_both(set, &one, &two);
+        } else if x.kind == FIXED {
+            mark_written(plan, bodies, starts, sides, set, at + 1, second);
         } else {
             mark_record(starts, sides, set, x);
         }

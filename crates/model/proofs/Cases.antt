@@ -1,13 +1,20 @@
 -- The cases: the trial, computed over their tables, settles each row and gives its answer.
-use mathlib.Core.Path.{_≡_, refl}
-use mathlib.Core.Bool.{Bool, true, _&&_}
+use mathlib.Core.Path.{_≡_, refl, sym}
+use Prim.Native.Nat.{ℕ, zero, suc, _<_}
+use native.Mathlib.Omega.{arith}
+use mathlib.Core.Bool.{Bool, true, false, true≢false, _&&_}
 use mathlib.Core.List.{List, [], _∷_, map}
 use Rattle.model.specs.Lists.{sum-before}
-use Rattle.model.specs.Records.{covers}
+use Rattle.model.specs.Sides.{card}
+use Rattle.model.specs.Records.{write, covers}
+use Rattle.model.specs.Blocks.{done, fixed, _⨾_}
 use Rattle.model.specs.Runs.{here, onward}
-use Rattle.model.specs.Cases.{Case, twelve, AllAnswer, StopsFirstAt2, nearly}
+use Rattle.model.specs.Judging.{at-end, leaving}
+use Rattle.model.specs.Cases.{Case, _on_, twelve, AllAnswer, StopsFirstAt2, nearly, fixed-counts, single, MetInside}
 use Rattle.model.specs.Claims.{ClaimCases}
 use Rattle.model.specs.Inner.Holders.{holder}
+use Rattle.model.proofs.Numbering.{span-within}
+use Rattle.model.proofs.Written.{always-written}
 use Rattle.model.proofs.Booleans.{and-out}
 use Rattle.model.proofs.Bits.{equal}
 use Rattle.model.proofs.Trial.{has, has-all, unmet, lower, tried, settles, tried-answers}
@@ -27,6 +34,18 @@ stops-first : StopsFirstAt2
 unfolding covers sum-before
 stops-first cs = (_, record { run = onward (onward here refl) refl; last = refl })
 
+covered : (c : ℕ) → c < 1 → covers (single 1) (write on card) c ≡ true
+unfolding covers sum-before
+covered zero h = refl
+covered (suc c) h = absurd (omega arith)
+
+met-inside : MetInside
+unfolding covers sum-before
+met-inside = (
+  record { once = refl; permitted = refl; written = (λ m c i. always-written (single 1) card c (fixed 0 1 (write on card ⨾ done) done) .0 (rw (covered c (span-within (single 1) 0 c i))), tt) },
+  λ r. true≢false (sym (r .written .0 refl 0 refl (false ∷ []) [] [] (leaving at-end))),
+)
+
 pub cases : ClaimCases
 unfolding has has-all unmet lower equal covers sum-before holder
-cases = (all-answer twelve refl refl, stops-first, all-answer nearly refl refl)
+cases = (all-answer twelve refl refl, stops-first, all-answer nearly refl refl, all-answer fixed-counts refl refl, met-inside)

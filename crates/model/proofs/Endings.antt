@@ -1,5 +1,5 @@
 -- A run on a list of choices ends, and in one way only.
-use Prim.Native.Nat.{ℕ}
+use Prim.Native.Nat.{ℕ, zero, suc}
 use mathlib.Core.Path.{_≡_, refl, ap, sym, _∙_, subst}
 use mathlib.Core.Logic.{_⊎_, inl, inr}
 use mathlib.Core.List.{List, [], _∷_}
@@ -7,10 +7,11 @@ use mathlib.Core.Bool.{Bool, cond, true≢false}
 use mathlib.Core.Option.{Option, none, some}
 use Rattle.model.specs.Records.{Action}
 use Rattle.model.specs.Effects.{State, start, effect}
-use Rattle.model.specs.Blocks.{Block, done, act, branch, loop, _then_, Plan}
+use Rattle.model.specs.Blocks.{Block, done, act, branch, loop, fixed, _then_, Plan}
 use Rattle.model.specs.Runs.{Event, Config, Ending, finished, stopped, out-of-choices, Step, next, ends, stop-or, lowest-unmet, step, Reached, here, onward, Run, Ends, proper}
 use Rattle.model.specs.Claims.{ClaimEnding}
 use Rattle.model.proofs.Runs.{config, event, next-same}
+use Rattle.model.proofs.Through.{then-done}
 
 -- it ends
 module _ (plan : Plan) (all : List Bool) where
@@ -19,15 +20,14 @@ module _ (plan : Plan) (all : List Bool) where
     pub ending : Ending
     pub ends : Ends plan all last ending
 
-  -- with the choices cs left, whatever else is left
-  abbrev EndsWith : List Bool → Type 0
-  EndsWith cs = (b : Block Action) (σ : State) (l : List Event) → Run proper plan all (config b cs σ l) → Ended
+  -- with b and the choices cs left, in every state
+  abbrev EndsFrom : Block Action → List Bool → Type 0
+  EndsFrom b cs = (σ : State) (l : List Event) → Run proper plan all (config b cs σ l) → Ended
 
   ended : (k : Config) (e : Ending) → Run proper plan all k → step proper (plan .layout) k ≡ ends e → Ended
   ended k e h q = record { last = k; ending = e; ends = record { run = h; last = q } }
 
-  end-act : (cs : List Bool) (r : ℕ) (x : Action) (b : Block Action) → ((σ : State) (l : List Event) → Run proper plan all (config b cs σ l) → Ended) →
-      (σ : State) (l : List Event) → Run proper plan all (config (act r x b) cs σ l) → Ended
+  end-act : (cs : List Bool) (r : ℕ) (x : Action) (b : Block Action) → EndsFrom b cs → EndsFrom (act r x b) cs
   end-act cs r x b more σ l h = go (lowest-unmet (plan .layout) x σ) refl
     where
       after : Step
@@ -37,24 +37,36 @@ module _ (plan : Plan) (all : List Bool) where
       go none q = more (effect (plan .layout) x σ) (event r x σ ∷ l) (onward h (ap (λ o. stop-or r o after) q))
       go (some c) q = ended (config (act r x b) cs σ l) (stopped r c) h (ap (λ o. stop-or r o after) q)
 
-  end-empty : EndsWith []
-  end-empty done σ l h = ended (config done [] σ l) finished h refl
-  end-empty (act r x b) σ l h = end-act [] r x b (end-empty b) σ l h
-  end-empty (branch r x y b) σ l h = ended (config (branch r x y b) [] σ l) (out-of-choices r) h refl
-  end-empty (loop r x b) σ l h = ended (config (loop r x b) [] σ l) (out-of-choices r) h refl
+  -- each turn ends if what follows it does
+  end-turns : (cs : List Bool) (r n : ℕ) (x b : Block Action) → ((b : Block Action) → EndsFrom b cs → EndsFrom (x then b) cs) →
+      EndsFrom b cs → EndsFrom (fixed r n x b) cs
+  end-turns cs r zero x b turn f σ l h = turn b f σ l (onward h refl)
+  end-turns cs r (suc n) x b turn f σ l h = turn (fixed r n x b) (end-turns cs r n x b turn f) σ l (onward h refl)
 
-  end-choice : (c : Bool) (cs : List Bool) → EndsWith cs → EndsWith (c ∷ cs)
-  end-choice c cs more done σ l h = ended (config done (c ∷ cs) σ l) finished h refl
-  end-choice c cs more (act r x b) σ l h = end-act (c ∷ cs) r x b (end-choice c cs more b) σ l h
-  end-choice c cs more (branch r x y b) σ l h = more (cond c x y then b) σ l (onward h refl)
-  end-choice c cs more (loop r x b) σ l h = more (cond c (x then loop r x b) b) σ l (onward h refl)
+  -- whatever is left ends after one choice
+  abbrev EndsAfter : List Bool → Type 0
+  EndsAfter [] = Unit {0}
+  EndsAfter (c ∷ cs) = (b : Block Action) → EndsFrom b cs
 
-  end-with : (cs : List Bool) → EndsWith cs
-  end-with [] = end-empty
-  end-with (c ∷ cs) = end-choice c cs (end-with cs)
+  -- then a block ends if what follows it does
+  end-then : (x b : Block Action) (cs : List Bool) → EndsAfter cs → EndsFrom b cs → EndsFrom (x then b) cs
+  end-then done b cs more f = f
+  end-then (act r y x) b cs more f = end-act cs r y (x then b) (end-then x b cs more f)
+  end-then (branch r y z x) b [] more f = λ σ l h. ended (config (branch r y z (x then b)) [] σ l) (out-of-choices r) h refl
+  end-then (branch r y z x) b (c ∷ cs) more f = λ σ l h. more (cond c y z then (x then b)) σ l (onward h refl)
+  end-then (loop r y x) b [] more f = λ σ l h. ended (config (loop r y (x then b)) [] σ l) (out-of-choices r) h refl
+  end-then (loop r y x) b (c ∷ cs) more f = λ σ l h. more (cond c (y then loop r y (x then b)) (x then b)) σ l (onward h refl)
+  end-then (fixed r n y x) b cs more f = end-turns cs r n y (x then b) (λ b. end-then y b cs more) (end-then x b cs more f)
+
+  end-block : (cs : List Bool) → EndsAfter cs → (b : Block Action) → EndsFrom b cs
+  end-block cs more b = rw then-done at (end-then b done cs more (λ σ l h. ended (config done cs σ l) finished h refl))
+
+  end-with : (b : Block Action) (cs : List Bool) → EndsFrom b cs
+  end-with b [] = end-block [] tt b
+  end-with b (c ∷ cs) = end-block (c ∷ cs) (λ b. end-with b cs) b
 
   pub run-ends : Ended
-  run-ends = end-with all (plan .body) (start (plan .layout)) [] here
+  run-ends = end-with (plan .body) all (start (plan .layout)) [] here
 
 -- of two configurations that steps of one kind reach, one leads to the other
 module _ (one : Config → Step) where

@@ -7,6 +7,7 @@ pub mod Needs
 pub mod Stamps
 pub mod Endings
 pub mod Numbering
+pub mod Products
 -- the check is exact
 pub mod Bits
 pub mod Status

@@ -1,21 +1,27 @@
 -- Steps of a run and of a carried-on run: a run is a carried-on run, and what every executed record keeps holds along both.
-use Prim.Native.Nat.{ℕ}
-use mathlib.Core.Path.{_≡_, subst}
+use Prim.Native.Nat.{ℕ, zero, suc}
+use mathlib.Core.Path.{_≡_, refl, sym, _∙_, subst}
 use mathlib.Core.List.{List, [], _∷_}
 use mathlib.Core.Bool.{Bool, true≢false}
 use mathlib.Core.Option.{Option, none, some}
 use Rattle.model.specs.Sides.{Layout}
 use Rattle.model.specs.Records.{Action}
 use Rattle.model.specs.Effects.{State, start, effect}
-use Rattle.model.specs.Blocks.{Block, done, act, branch, loop, Plan}
-use Rattle.model.specs.Runs.{Event, Config, next, stop-or, lowest-unmet, step, here, onward, Run, carried-on, proper}
+use Rattle.model.specs.Blocks.{Block, done, act, branch, loop, fixed, _then_, Plan}
+use Rattle.model.specs.Runs.{Event, Config, Manner, next, stop-or, lowest-unmet, step, here, onward, Run, carried-on, proper}
 use Rattle.model.specs.Claims.{ClaimCarried}
-pub use Rattle.model.specs.Inner.Events.{config, event}
+pub use Rattle.model.specs.Inner.Events.{config, after-turn, event}
 
 pub next-same : (k k′ : Config) → next k ≡ next k′ → k ≡ k′
 next-same k k′ e = cc
 
 module _ (layout : Layout) where
+  -- a turn of a fixed loop
+  pub step-turn : (manner : Manner) (r n : ℕ) (x b : Block Action) (cs : List Bool) (σ : State) (l : List Event) →
+      step manner layout (config (fixed r n x b) cs σ l) ≡ next (config (x then after-turn r n x b) cs σ l)
+  step-turn manner r zero x b cs σ l = refl
+  step-turn manner r (suc n) x b cs σ l = refl
+
   pub next-carry : (b : Block Action) (cs : List Bool) (σ : State) (l : List Event) (k : Config) → step proper layout (config b cs σ l) ≡ next k → step carried-on layout (config b cs σ l) ≡ next k
   next-carry done cs σ l k e = e
   next-carry (act r x b) cs σ l k e = go (lowest-unmet layout x σ) e
@@ -25,6 +31,7 @@ module _ (layout : Layout) where
       go (some c) f = cc
   next-carry (branch r x y b) cs σ l k e = e
   next-carry (loop r x b) cs σ l k e = e
+  next-carry (fixed r n x b) cs σ l k e = step-turn carried-on r n x b cs σ l ∙ (sym (step-turn proper r n x b cs σ l) ∙ e)
 
 pub carried : (plan : Plan) {cs : List Bool} {k : Config} → Run proper plan cs k → Run carried-on plan cs k
 carried plan here = here
@@ -43,6 +50,7 @@ module _ (plan : Plan) (P : State → List Event → Type 0) (first : P (start (
   kept-on (branch r x y b) (c ∷ cs) σ l k e p = subst (λ (m : Config). P (m .state) (m .history)) (next-same _ k e) p
   kept-on (loop r x b) [] σ l k e p = absurd (true≢false (cc))
   kept-on (loop r x b) (c ∷ cs) σ l k e p = subst (λ (m : Config). P (m .state) (m .history)) (next-same _ k e) p
+  kept-on (fixed r n x b) cs σ l k e p = subst (λ (m : Config). P (m .state) (m .history)) (next-same _ k (sym (step-turn (plan .layout) carried-on r n x b cs σ l) ∙ e)) p
 
   pub along : {cs : List Bool} {k : Config} → Run carried-on plan cs k → P (k .state) (k .history)
   along here = first

@@ -1,6 +1,6 @@
 -- A carried-on run stops somewhere exactly if a run gets stuck.
 use Prim.Native.Nat.{ℕ}
-use mathlib.Core.Path.{_≡_, refl}
+use mathlib.Core.Path.{_≡_, refl, sym, _∙_}
 use mathlib.Core.Logic.{_⊎_, inl, inr}
 use mathlib.Core.List.{List, [], _∷_}
 use mathlib.Core.Bool.{Bool, true≢false}
@@ -9,12 +9,12 @@ use native.Mathlib.Omega.{arith}
 use Rattle.model.specs.Sides.{cell-count}
 use Rattle.model.specs.Effects.{State}
 use Rattle.model.specs.Records.{Action}
-use Rattle.model.specs.Blocks.{Block, done, act, branch, loop, Plan}
+use Rattle.model.specs.Blocks.{Block, done, act, branch, loop, fixed, Plan}
 use Rattle.model.specs.Runs.{Event, Config, next, ends, stopped, lowest-unmet, stop-or, step, here, onward, Run, carried-on, proper, Ends}
 use Rattle.model.specs.Check.{MayStop}
 use Rattle.model.specs.Claims.{ClaimAccepted}
 use Rattle.model.proofs.Unmet.{unmet-is, unmet-some}
-use Rattle.model.proofs.Runs.{config, carried}
+use Rattle.model.proofs.Runs.{config, step-turn, carried}
 
 -- some run of the plan gets stuck
 record Stuck (plan : Plan) : Type 0 where
@@ -36,6 +36,7 @@ module _ (plan : Plan) where
       go (some c) q = inr (record { choices = ds; config = config (act r x b) cs σ l; number = r; cell = c; ends = record { run = h; last = rw q } })
   run-on (branch r x y b) cs σ l k h e = inl (onward h e)
   run-on (loop r x b) cs σ l k h e = inl (onward h e)
+  run-on (fixed r n x b) cs σ l k h e = inl (onward h (step-turn (plan .layout) proper r n x b cs σ l ∙ (sym (step-turn (plan .layout) carried-on r n x b cs σ l) ∙ e)))
 
   run-or-stuck : {cs : List Bool} {k : Config} → Run carried-on plan cs k → Run proper plan cs k ⊎ Stuck plan
   run-or-stuck here = inl here
@@ -61,6 +62,7 @@ module _ (plan : Plan) where
   stuck-on (branch q x y b) (d ∷ cs) σ l r c h e = absurd (true≢false (cc))
   stuck-on (loop q x b) [] σ l r c h e = absurd (true≢false (cc))
   stuck-on (loop q x b) (d ∷ cs) σ l r c h e = absurd (true≢false (cc))
+  stuck-on (fixed q n x b) cs σ l r c h e = absurd (true≢false (cc (step-turn (plan .layout) proper q n x b cs σ l)))
 
   stuck-stops : (s : Stuck plan) → MayStop plan (s .number) (s .cell)
   stuck-stops s = let k = s .config in stuck-on (k .left) (k .choices) (k .state) (k .history) (s .number) (s .cell) (carried plan (s .ends .run)) (s .ends .last)

@@ -1,18 +1,19 @@
 -- The ways that one cell can take through a block, by its status, and that they are those of the carried-on runs.
-use Prim.Native.Nat.{ℕ, _<_}
+use Prim.Native.Nat.{ℕ, zero, suc, _≤_, _<_}
 use mathlib.Core.Path.{_≡_, refl, ap, sym, _∙_}
 use mathlib.Core.Logic.{_⊎_, inl, inr}
 use mathlib.Core.List.{List, [], _∷_}
 use mathlib.Core.Bool.{Bool, true, false, cond, true≢false}
+use native.Mathlib.Omega.{arith}
 use Rattle.model.specs.Sides.{Layout, cell-count}
 use Rattle.model.specs.Records.{Action}
 use Rattle.model.specs.Effects.{State, start, met, effect}
-use Rattle.model.specs.Blocks.{Block, done, act, branch, loop, _then_, Plan}
+use Rattle.model.specs.Blocks.{Block, done, act, branch, loop, fixed, _then_, Plan}
 use Rattle.model.specs.Runs.{Event, Config, next, Reached, here, onward, carried-on, step, Run}
 use Rattle.model.specs.Check.{MayStop}
-use Rattle.model.proofs.Runs.{config, event, next-same}
+use Rattle.model.proofs.Runs.{config, after-turn, event, next-same, step-turn}
 use Rattle.model.proofs.Stamps.{Past, past, past-effect}
-pub use Rattle.model.specs.Inner.Stops.{Star, stay, more, Goes, Stops, StopsAt}
+pub use Rattle.model.specs.Inner.Stops.{Star, stay, more, Power, Within, Goes, Stops, StopsAt}
 use Rattle.model.proofs.Status.{Status, status-of, met-in, status-after, met-status, status-effect}
 
 module _ (layout : Layout) (c : ℕ) where
@@ -32,6 +33,8 @@ module _ (layout : Layout) (c : ℕ) where
       | inl t ↦ inl (s .0, s .1, inl t)
       | inr t ↦ elim (stops-then x b (s .0) t) [ inl q ↦ inl (s .0, s .1, inr q) | inr q ↦ inr (q .0, (s .0, s .1, q .1), q .2) ]
     ]
+    stops-then (fixed k n y x) b u (inl s) = inl (inl s)
+    stops-then (fixed k n y x) b u (inr s) = elim (stops-then x b (s .0) (s .2)) [ inl t ↦ inl (inr (s .0, s .1, t)) | inr t ↦ inr (t .0, (s .0, s .1, t .1), t .2) ]
 
     stops-branch : (k : ℕ) (x y b : Block Action) (d : Bool) (u : Status) → Stops layout c (cond d x y then b) u r → Stops layout c (branch k x y b) u r
     stops-branch k x y b true u s = elim (stops-then x b u s) [ inl t ↦ inl (inl t) | inr t ↦ inr (t .0, inl (t .1), t .2) ]
@@ -40,6 +43,17 @@ module _ (layout : Layout) (c : ℕ) where
     stops-loop : (k : ℕ) (x b : Block Action) (d : Bool) (u : Status) → Stops layout c (cond d (x then loop k x b) b) u r → Stops layout c (loop k x b) u r
     stops-loop k x b true u s = elim (stops-then x (loop k x b) u s) [ inl t ↦ (u, stay, inl t) | inr t ↦ (t .2 .0, more (t .1) (t .2 .1), t .2 .2) ]
     stops-loop k x b false u s = (u, stay, inr s)
+
+    -- in the turn at hand, in a later one, or after all of them
+    stops-turn : (k n : ℕ) (x b : Block Action) (u : Status) → Stops layout c (x then after-turn k n x b) u r → Stops layout c (fixed k n x b) u r
+    stops-turn k zero x b u s = elim (stops-then x b u s) [ inl t ↦ inl (u, (0, omega arith, refl), t) | inr t ↦ inr (t .0, (t .0, t .1, refl), t .2) ]
+    stops-turn k (suc n) x b u s = elim (stops-then x (fixed k n x b) u s) [
+      | inl t ↦ inl (u, (0, omega arith, refl), t)
+      | inr t ↦ elim (t .2) [
+        | inl q ↦ let (m, l, p) = q .1 in inl (q .0, (suc m, omega arith, (t .0, t .1, p)), q .2)
+        | inr q ↦ inr (q .0, (t .0, t .1, q .1), q .2)
+      ]
+    ]
 
     -- a configuration from which the cell can stop
     abbrev StopsFrom : Config → Type 0
@@ -53,6 +67,8 @@ module _ (layout : Layout) (c : ℕ) where
     stops-before (branch q x y b) (d ∷ cs) σ l k p e = rw (← next-same _ k e) (stops-branch q x y b d (status-of layout c σ))
     stops-before (loop q x b) [] σ l k p e = absurd (true≢false (cc))
     stops-before (loop q x b) (d ∷ cs) σ l k p e = rw (← next-same _ k e) (stops-loop q x b d (status-of layout c σ))
+    stops-before (fixed q n x b) cs σ l k p e =
+        rw (← next-same _ k (sym (step-turn layout carried-on q n x b cs σ l) ∙ e)) (stops-turn q n x b (status-of layout c σ))
 
   -- each of these is a stop of some carried-on run: the choices are built from the last one to the first
   module _ (r : ℕ) where
@@ -101,6 +117,22 @@ module _ (layout : Layout) (c : ℕ) where
     from-star k x b u v one stay f = f
     from-star k x b u v one (more {w = w} g s) f = from-loop k x b true u (one u w g (from-star k x b w v one s f))
 
+    from-turn : (k n : ℕ) (x b : Block Action) (u : Status) → From (x then after-turn k n x b) u → From (fixed k n x b) u
+    from-turn k n x b u f σ l p e = can-stop-before (λ cs. cs) (λ cs. step-turn layout carried-on k n x b cs σ l) (f σ l p e)
+
+    -- through all turns
+    from-power : (k n : ℕ) (x b : Block Action) (u v : Status) → ((b : Block Action) (u v : Status) → Goes layout c x u v → From b v → From (x then b) u) →
+        Power (Goes layout c x) (suc n) u v → From b v → From (fixed k n x b) u
+    from-power k zero x b u v one (w, g, e) f = from-turn k 0 x b u (one b u w g (rw e f))
+    from-power k (suc n) x b u v one (w, g, p) f = from-turn k (suc n) x b u (one (fixed k n x b) u w g (from-power k n x b w v one p f))
+
+    -- m turns, with one more to come, which leads to a stop
+    from-within : (k n m : ℕ) (x b : Block Action) (u v : Status) → ((b : Block Action) (u v : Status) → Goes layout c x u v → From b v → From (x then b) u) →
+        m ≤ n → Power (Goes layout c x) m u v → ((b : Block Action) → From (x then b) v) → From (fixed k n x b) u
+    from-within k n zero x b u v one h p f = from-turn k n x b u (rw p (f (after-turn k n x b)))
+    from-within k zero (suc m) x b u v one h p f = absurd (omega arith)
+    from-within k (suc n) (suc m) x b u v one h (w, g, p) f = from-turn k (suc n) x b u (one (fixed k n x b) u w g (from-within k n m x b w v one (omega arith) p f))
+
     -- through x, and then whatever b leads to
     from-goes : (x b : Block Action) (u v : Status) → Goes layout c x u v → From b v → From (x then b) u
     from-goes done b u v g f = rw g f
@@ -111,6 +143,7 @@ module _ (layout : Layout) (c : ℕ) where
     ]
     from-goes (loop k y x) b u v g f = from-star k y (x then b) u (g .0) (from-goes y (loop k y (x then b))) (g .1)
         (from-loop k y (x then b) false (g .0) (from-goes x b (g .0) v (g .2) f))
+    from-goes (fixed k n y x) b u v g f = from-power k n y (x then b) u (g .0) (from-goes y) (g .1) (from-goes x b (g .0) v (g .2) f)
 
     from-stops : (x b : Block Action) (u : Status) → Stops layout c x u r → From (x then b) u
     from-stops done b u s = absurd s
@@ -134,12 +167,15 @@ module _ (layout : Layout) (c : ℕ) where
       | inl t ↦ from-loop k y (x then b) true (s .0) (from-stops y (loop k y (x then b)) (s .0) t)
       | inr t ↦ from-loop k y (x then b) false (s .0) (from-stops x b (s .0) t)
     ])
+    from-stops (fixed k n y x) b u (inl s) = let (m, h, p) = s .1 in from-within k n m y (x then b) u (s .0) (from-goes y) h p (λ b. from-stops y b (s .0) (s .2))
+    from-stops (fixed k n y x) b u (inr s) = from-power k n y (x then b) u (s .0) (from-goes y) (s .1) (from-stops x b (s .0) (s .2))
 
 pub then-done : (x : Block Action) → x then done ≡ x
 then-done done = refl
 then-done (act k y x) = ap (act k y) (then-done x)
 then-done (branch k y z x) = ap (branch k y z) (then-done x)
 then-done (loop k y x) = ap (loop k y) (then-done x)
+then-done (fixed k n y x) = ap (fixed k n y) (then-done x)
 
 module _ (plan : Plan) (r c : ℕ) where
   stops-begin : {cs : List Bool} {k : Config} → Run carried-on plan cs k → StopsFrom (plan .layout) c r k → StopsAt plan r c

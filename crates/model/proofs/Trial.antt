@@ -1,6 +1,6 @@
--- Small plans decided by trial: one cell followed through a block by lists of statuses, each loop turned once, with a test that another turn would bring no status more.
--- The twelve cases pass the test; the check of a file does not use it.
-use Prim.Native.Nat.{ℕ, zero, suc}
+-- Small plans decided by trial: one cell followed through a block by lists of statuses, each free loop turned once, with a test that another turn would bring no status more, and each fixed loop turned as often as it says.
+-- The cases pass the test; the check of a file does not use it.
+use Prim.Native.Nat.{ℕ, zero, suc, _<_}
 use mathlib.Core.Path.{_≡_, refl, subst}
 use mathlib.Core.Logic.{_⊎_, inl, inr}
 use mathlib.Core.Bool.{Bool, true, false, cond, _&&_, _||_, true≢false, false≢true}
@@ -14,11 +14,11 @@ use Rattle.model.specs.declared.Verdict.the-variants.{Accepted}
 use Rattle.model.specs.Sides.{Layout, cell-count}
 use Rattle.model.specs.Records.{Action}
 use Rattle.model.specs.Effects.{start}
-use Rattle.model.specs.Blocks.{Block, done, act, branch, loop, Plan}
+use Rattle.model.specs.Blocks.{Block, done, act, branch, loop, fixed, Plan}
 use Rattle.model.specs.Check.{Answers}
 use Rattle.model.proofs.Booleans.{and-out, or-out}
 use Rattle.model.proofs.Status.{Status, status-of, met-in, status-after, alike, alike-true}
-use Rattle.model.proofs.Through.{Star, stay, more, Goes, Stops, StopsAt}
+use Rattle.model.proofs.Through.{Star, stay, more, Power, Goes, Stops, StopsAt}
 use Rattle.model.proofs.Check.{Least, with-cell, Fits, fits-none, fits-cell, exact}
 
 -- the entries of a list
@@ -77,6 +77,34 @@ star-keeps : {R : Status → Status → Type 0} (P : Status → Type 0) → ((u 
 star-keeps P k stay p = p
 star-keeps P k {u} (more {w = w} r s) p = star-keeps P k s (k u w p r)
 
+-- n turns, where f is what one turn makes of a list: the list after them, what all of them give, and whether all pass a test
+abbrev pub turned : (List Status → List Status) → ℕ → List Status → List Status
+turned f zero l = l
+turned f (suc n) l = turned f n (f l)
+
+module _ (f : List Status → List Status) where
+  abbrev pub all-turns : (List Status → List ℕ) → ℕ → List Status → List ℕ
+  all-turns g zero l = []
+  all-turns g (suc n) l = g l ++ all-turns g n (f l)
+
+  abbrev pub each-turn : (List Status → Bool) → ℕ → List Status → Bool
+  each-turn t zero l = true
+  each-turn t (suc n) l = t l && each-turn t n (f l)
+
+  all-turns-in : (g : List Status → List ℕ) (n m : ℕ) (l : List Status) (r : ℕ) → m < n → Has (g (turned f m l)) r → Has (all-turns g n l) r
+  all-turns-in g zero m l r h p = absurd (omega arith)
+  all-turns-in g (suc n) zero l r h p = has-left (g l) _ r p
+  all-turns-in g (suc n) (suc m) l r h p = has-right (g l) _ r (all-turns-in g n m (f l) r (omega arith) p)
+
+  all-turns-out : (g : List Status → List ℕ) (n : ℕ) (l : List Status) (r : ℕ) → Has (all-turns g n l) r → (m : ℕ) × (m < n) × Has (g (turned f m l)) r
+  all-turns-out g zero l r h = absurd h
+  all-turns-out g (suc n) l r h = elim (has-out (g l) _ r h) [ inl p ↦ (0, omega arith, p) | inr p ↦ let (m, i, q) = all-turns-out g n (f l) r p in (suc m, omega arith, q) ]
+
+  each-turn-out : (t : List Status → Bool) (n : ℕ) (l : List Status) → each-turn t n l ≡ true → (m : ℕ) → m < n → t (turned f m l) ≡ true
+  each-turn-out t zero l e m h = absurd (omega arith)
+  each-turn-out t (suc n) l e zero h = and-out (t l) _ e .0
+  each-turn-out t (suc n) l e (suc m) h = each-turn-out t n (f l) (and-out (t l) _ e .1) m (omega arith)
+
 module _ (layout : Layout) (c : ℕ) where
   -- the statuses in which the cell can leave a block, from those of a list
   abbrev pub exits : Block Action → List Status → List Status
@@ -84,13 +112,15 @@ module _ (layout : Layout) (c : ℕ) where
   exits (act k x b) l = exits b (map (status-after layout c x) l)
   exits (branch k x y b) l = exits b (exits x l ++ exits y l)
   exits (loop k x b) l = exits b (l ++ exits x l)
+  exits (fixed k n x b) l = exits b (turned (exits x) (suc n) l)
 
-  -- whether no loop can bring more
+  -- whether no free loop can bring more
   abbrev pub settled : Block Action → List Status → Bool
   settled done l = true
   settled (act k x b) l = settled b (map (status-after layout c x) l)
   settled (branch k x y b) l = settled x l && (settled y l && settled b (exits x l ++ exits y l))
   settled (loop k x b) l = let m = l ++ exits x l in settled x m && (has-all m (exits x m) && settled b m)
+  settled (fixed k n x b) l = each-turn (exits x) (settled x) (suc n) l && settled b (turned (exits x) (suc n) l)
 
   -- the records at which it can stop
   unfoldable pub unmet : ℕ → Action → List Status → List ℕ
@@ -102,14 +132,21 @@ module _ (layout : Layout) (c : ℕ) where
   stops (act k x b) l = unmet k x l ++ stops b (map (status-after layout c x) l)
   stops (branch k x y b) l = (stops x l ++ stops y l) ++ stops b (exits x l ++ exits y l)
   stops (loop k x b) l = let m = l ++ exits x l in stops x m ++ stops b m
+  stops (fixed k n x b) l = all-turns (exits x) (stops x) (suc n) l ++ stops b (turned (exits x) (suc n) l)
 
   -- each is reached from the list
   abbrev From : {X : Type 0} → List Status → (Status → X → Type 0) → X → Type 0
   From l R v = (u : Status) × Has l u × R u v
 
-  -- after one turn or none
-  turned-from : (x : Block Action) (l : List Status) (w : Status) → (Has (exits x l) w → From l (Goes layout c x) w) → Has (l ++ exits x l) w → From l (Star (Goes layout c x)) w
-  turned-from x l w f h = elim (has-out l (exits x l) w h) [ inl e ↦ (w, e, stay) | inr e ↦ let q = f e in (q .0, q .1, more (q .2) stay) ]
+  -- after one turn of a free loop or none
+  once-from : (x : Block Action) (l : List Status) (w : Status) → (Has (exits x l) w → From l (Goes layout c x) w) → Has (l ++ exits x l) w → From l (Star (Goes layout c x)) w
+  once-from x l w f h = elim (has-out l (exits x l) w h) [ inl e ↦ (w, e, stay) | inr e ↦ let q = f e in (q .0, q .1, more (q .2) stay) ]
+
+  -- after n turns of a fixed one
+  turned-from : (x : Block Action) (n : ℕ) (l : List Status) (w : Status) → ((l : List Status) (w : Status) → Has (exits x l) w → From l (Goes layout c x) w) →
+      Has (turned (exits x) n l) w → From l (Power (Goes layout c x) n) w
+  turned-from x zero l w f h = (w, h, refl)
+  turned-from x (suc n) l w f h = let p = turned-from x n (exits x l) w f h in let q = f l (p .0) (p .1) in (q .0, q .1, (p .0, q .2, p .2))
 
   exits-from : (b : Block Action) (l : List Status) (v : Status) → Has (exits b l) v → From l (Goes layout c b) v
   exits-from done l v h = (v, h, refl)
@@ -118,9 +155,19 @@ module _ (layout : Layout) (c : ℕ) where
     | inl e ↦ let q = exits-from x l (p .0) e in (q .0, q .1, (p .0, inl (q .2), p .2))
     | inr e ↦ let q = exits-from y l (p .0) e in (q .0, q .1, (p .0, inr (q .2), p .2))
   ]
-  exits-from (loop k x b) l v h = let p = exits-from b (l ++ exits x l) v h in let q = turned-from x l (p .0) (exits-from x l (p .0)) (p .1) in (q .0, q .1, (p .0, q .2, p .2))
+  exits-from (loop k x b) l v h = let p = exits-from b (l ++ exits x l) v h in let q = once-from x l (p .0) (exits-from x l (p .0)) (p .1) in (q .0, q .1, (p .0, q .2, p .2))
+  exits-from (fixed k n x b) l v h =
+      let p = exits-from b (turned (exits x) (suc n) l) v h in
+      let q = turned-from x (suc n) l (p .0) (exits-from x) (p .1) in
+      (q .0, q .1, (p .0, q .2, p .2))
 
   -- and nothing is missing where all is settled
+  turned-all : (x : Block Action) (n : ℕ) (l : List Status) →
+      ((l : List Status) → settled x l ≡ true → (u v : Status) → Has l u → Goes layout c x u v → Has (exits x l) v) →
+      ((m : ℕ) → m < n → settled x (turned (exits x) m l) ≡ true) → (u v : Status) → Has l u → Power (Goes layout c x) n u v → Has (turned (exits x) n l) v
+  turned-all x zero l f s u v h p = subst (Has l) p h
+  turned-all x (suc n) l f s u v h (w, g, p) = turned-all x n (exits x l) f (λ m i. s (suc m) (omega arith)) w v (f l (s 0 (omega arith)) u w h g) p
+
   exits-all : (b : Block Action) (l : List Status) → settled b l ≡ true → (u v : Status) → Has l u → Goes layout c b u v → Has (exits b l) v
   exits-all done l s u v h g = subst (Has l) g h
   exits-all (act k x b) l s u v h g = exits-all b (map (status-after layout c x) l) s (status-after layout c x u) v (map-in (status-after layout c x) l u h) g
@@ -136,6 +183,9 @@ module _ (layout : Layout) (c : ℕ) where
       let s₁ = and-out (settled x m) _ s in
       let s₂ = and-out (has-all m (exits x m)) _ (s₁ .1) in
       exits-all b m (s₂ .1) (g .0) v (star-keeps (Has m) (λ u w h r. has-all-true m (exits x m) (s₂ .0) w (exits-all x m (s₁ .0) u w h r)) (g .1) (has-left l (exits x l) u h)) (g .2)
+  exits-all (fixed k n x b) l s u v h g =
+      let s₁ = and-out (each-turn (exits x) (settled x) (suc n) l) _ s in
+      exits-all b (turned (exits x) (suc n) l) (s₁ .1) (g .0) v (turned-all x (suc n) l (exits-all x) (each-turn-out (exits x) (settled x) (suc n) l (s₁ .0)) u (g .0) h (g .1)) (g .2)
 
   unmet-from : (k : ℕ) (x : Action) (l : List Status) (r : ℕ) → Has (unmet k x l) r → From l (λ u r. (k ≡ r) × (met-in layout c x u ≡ false)) r
   unfolding unmet
@@ -175,8 +225,19 @@ module _ (layout : Layout) (c : ℕ) where
     ]
   ]
   stops-from (loop k x b) l r h = elim (has-out (stops x (l ++ exits x l)) _ r h) [
-    | inl e ↦ let p = stops-from x (l ++ exits x l) r e in let q = turned-from x l (p .0) (exits-from x l (p .0)) (p .1) in (q .0, q .1, (p .0, q .2, inl (p .2)))
-    | inr e ↦ let p = stops-from b (l ++ exits x l) r e in let q = turned-from x l (p .0) (exits-from x l (p .0)) (p .1) in (q .0, q .1, (p .0, q .2, inr (p .2)))
+    | inl e ↦ let p = stops-from x (l ++ exits x l) r e in let q = once-from x l (p .0) (exits-from x l (p .0)) (p .1) in (q .0, q .1, (p .0, q .2, inl (p .2)))
+    | inr e ↦ let p = stops-from b (l ++ exits x l) r e in let q = once-from x l (p .0) (exits-from x l (p .0)) (p .1) in (q .0, q .1, (p .0, q .2, inr (p .2)))
+  ]
+  stops-from (fixed k n x b) l r h = elim (has-out (all-turns (exits x) (stops x) (suc n) l) _ r h) [
+    | inl e ↦
+        let (m, i, d) = all-turns-out (exits x) (stops x) (suc n) l r e in
+        let p = stops-from x (turned (exits x) m l) r d in
+        let q = turned-from x m l (p .0) (exits-from x) (p .1) in
+        (q .0, q .1, inl (p .0, (m, omega arith, q .2), p .2))
+    | inr e ↦
+        let p = stops-from b (turned (exits x) (suc n) l) r e in
+        let q = turned-from x (suc n) l (p .0) (exits-from x) (p .1) in
+        (q .0, q .1, inr (p .0, q .2, p .2))
   ]
 
   stops-all : (b : Block Action) (l : List Status) → settled b l ≡ true → (u : Status) (r : ℕ) → Has l u → Stops layout c b u r → Has (stops b l) r
@@ -203,6 +264,15 @@ module _ (layout : Layout) (c : ℕ) where
         | inl p ↦ has-left (stops x m) (stops b m) r (stops-all x m (s₁ .0) (t .0) r w p)
         | inr p ↦ has-right (stops x m) (stops b m) r (stops-all b m (s₂ .1) (t .0) r w p)
       ]
+  stops-all (fixed k n x b) l s u r h (inl t) =
+      let s₁ = each-turn-out (exits x) (settled x) (suc n) l (and-out (each-turn (exits x) (settled x) (suc n) l) _ s .0) in
+      let (m, i, p) = t .1 in
+      has-left (all-turns (exits x) (stops x) (suc n) l) _ r (all-turns-in (exits x) (stops x) (suc n) m l r (omega arith)
+      (stops-all x (turned (exits x) m l) (s₁ m (omega arith)) (t .0) r (turned-all x m l (exits-all x) (λ j z. s₁ j (omega arith)) u (t .0) h p) (t .2)))
+  stops-all (fixed k n x b) l s u r h (inr t) =
+      let s₁ = and-out (each-turn (exits x) (settled x) (suc n) l) _ s in
+      has-right (all-turns (exits x) (stops x) (suc n) l) _ r
+      (stops-all b (turned (exits x) (suc n) l) (s₁ .1) (t .0) r (turned-all x (suc n) l (exits-all x) (each-turn-out (exits x) (settled x) (suc n) l (s₁ .0)) u (t .0) h (t .1)) (t .2))
 
 -- the lowest of a list of records
 unfoldable pub lower : ℕ → Option ℕ → Option ℕ

@@ -1,26 +1,31 @@
--- The twelve cases (document 01, 'Twelve cases, one array of one cell unless said'), in one table, and the plan of 'Checkers that would
--- nearly do'.
+-- The twelve cases (document 01, 'Twelve cases, one array of one cell unless said'), in one table, the plan of 'Checkers that would nearly
+-- do', and cases of fixed loops (document 02, request a).
 use Prim.Native.Nat.{ℕ}
 use mathlib.Core.Bool.{Bool, true}
 use mathlib.Core.List.{List, [], _∷_}
 use Rattle.model.specs.declared.Verdict.{Verdict}
 use Rattle.model.specs.declared.Verdict.the-variants.{Accepted}
 use Rattle.model.specs.Lists.{All}
-use Rattle.model.specs.Sides.{Side, host, card}
+use Rattle.model.specs.Sides.{Side, host, card, Layout}
 use Rattle.model.specs.Records.{Verb, read, write, copy, need, mark, Action}
-use Rattle.model.specs.Blocks.{Block, done, branch, loop, numbered, _⨾_, Plan}
+use Rattle.model.specs.Blocks.{Block, done, branch, loop, fixed, numbered, _⨾_, Plan}
 use Rattle.model.specs.Runs.{Config, stopped, Ends}
 use Rattle.model.specs.Verdicts.{stopped-at}
 use Rattle.model.specs.Check.{Answers}
+use Rattle.model.specs.Judging.{W, Pass, Rules}
 
 -- a row: a plan and the check's answer
 pub record Case : Type 0 where
   pub plan : Plan
   pub answer : Verdict
 
--- a row of one array of n cells; the records of its body are numbered from 0
+-- one array of n cells
+abbrev pub single : ℕ → Layout
+single n = record { lengths = n ∷ [] }
+
+-- a row of it; the records of its body are numbered from 0
 abbrev pub case : ℕ → Block Action → Verdict → Case
-case n b v = record { plan = record { layout = record { lengths = n ∷ [] }; body = numbered 0 b }; answer = v }
+case n b v = record { plan = record { layout = single n; body = numbered 0 b }; answer = v }
 
 -- a record of cell 0 of array 0, and of its cells 0 and 1
 infix 70 _on_ _on-both_
@@ -70,6 +75,30 @@ StopsFirstAt2 = (cs : List Bool) → (k : Config) × Ends (case10 .plan) (true �
 -- 'Checkers that would nearly do': "copy to card, write host, need card, read card is accepted."
 abbrev pub nearly : List Case
 nearly = case 1 (copy on card ⨾ write on host ⨾ need on card ⨾ read on card ⨾ done) Accepted ∷ []
+
+-- "The verdict covers the fixed counts exactly and free loops as before."
+abbrev pub fixed-counts : List Case
+fixed-counts =
+    -- a fixed loop of two turns (read host, write card): stop 1, though the first turn does not stop
+    case 1 (fixed 0 1 (read on host ⨾ write on card ⨾ done) done) (stopped-at 1 0)
+    -- the same of one turn: accepted
+    ∷ case 1 (fixed 0 0 (read on host ⨾ write on card ⨾ done) done) Accepted
+    -- a fixed loop of one turn (copy to card), read card: accepted
+    ∷ case 1 (fixed 0 0 (copy on card ⨾ done) (read on card ⨾ done)) Accepted
+    -- the same with a free loop, which may take no turn: stop 2
+    ∷ case 1 (loop 0 (copy on card ⨾ done) (read on card ⨾ done)) (stopped-at 2 0)
+    ∷ []
+
+-- a pass that declares W of the array on the card
+abbrev pub filling : Block Action → Pass
+filling b = record { declarations = record { mode = W; side = card; array = 0 } ∷ []; body = b }
+
+-- "A write inside it meets a W like one outside.": a fixed loop of two turns (write card) keeps the judge's rules, a free one, which may take
+-- no turn, does not
+abbrev pub MetInside : Type 0
+MetInside =
+    Rules (single 1) (filling (fixed 0 1 (write on card ⨾ done) done))
+    × (Rules (single 1) (filling (loop 0 (write on card ⨾ done) done)) → ⊥)
 
 -- every row's answer is the check's
 abbrev pub AllAnswer : List Case → Type 0

@@ -15,7 +15,7 @@ use Rattle.model.specs.Check.{Answers}
 use Rattle.model.specs.Judging.{DeclaredPlan, Way, Itself, writes-cell, always-writes, Accepts}
 use Rattle.model.specs.Expanding.{expansion}
 use Rattle.model.specs.Demand.{latest-write, events-of, ExactMoves, Demand3}
-use Rattle.model.specs.Cases.{twelve, AllAnswer, StopsFirstAt2, nearly}
+use Rattle.model.specs.Cases.{twelve, AllAnswer, StopsFirstAt2, nearly, fixed-counts, MetInside}
 
 -- CLAIM (proofs/Numbering, `one-array`): "Cells are numbered from 0 through all arrays in order": each cell is in one array, and in one
 -- only
@@ -58,10 +58,10 @@ ClaimAnswer = (plan : Plan) (v w : Verdict) → Answers plan v → Answers plan 
 abbrev pub ClaimAccepted : Type 0
 ClaimAccepted = (plan : Plan) → Answers plan Accepted ↔ ((cs : List Bool) (k : Config) (r c : ℕ) → Ends plan cs k (stopped r c) → ⊥)
 
--- CLAIM (proofs/Cases, `cases`): the twelve cases have these answers, case 10 has its run proper, and the plan of 'Checkers that would
--- nearly do' is accepted
+-- CLAIM (proofs/Cases, `cases`): the twelve cases have these answers, case 10 has its run proper, the plan of 'Checkers that would nearly
+-- do' is accepted, the cases of fixed loops have these answers, and a W is met inside one
 abbrev pub ClaimCases : Type 0
-ClaimCases = AllAnswer twelve × StopsFirstAt2 × AllAnswer nearly
+ClaimCases = AllAnswer twelve × StopsFirstAt2 × AllAnswer nearly × AllAnswer fixed-counts × MetInside
 
 -- CLAIM (proofs/Written, `always-written`): the test of a W is exact: it passes exactly if every way through the block writes the cell
 abbrev pub ClaimWritten : Type 0

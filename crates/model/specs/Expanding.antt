@@ -2,7 +2,7 @@
 use Prim.Native.Nat.{ℕ}
 use mathlib.Core.List.{List, [], _∷_, map, foldr}
 use Rattle.model.specs.Records.{Verb, need, mark, Action, whole-of}
-use Rattle.model.specs.Blocks.{Block, act, branch, loop, _then_, numbered, _⨾_, Plan}
+use Rattle.model.specs.Blocks.{Block, act, branch, loop, fixed, _then_, numbered, _⨾_, Plan}
 use Rattle.model.specs.Judging.{Mode, R, W, RW, Declaration, Pass, DeclaredPlan, pass-of}
 
 -- "R gives need; W gives mark; RW gives need, mark"
@@ -25,6 +25,7 @@ expand passes Block.done = Block.done
 expand passes (act r b t) = foldr given (pass-of passes b .body then expand passes t) (pass-of passes b .declarations)
 expand passes (branch r x y t) = branch r (expand passes x) (expand passes y) (expand passes t)
 expand passes (loop r x t) = loop r (expand passes x) (expand passes t)
+expand passes (fixed r n x t) = fixed r n (expand passes x) (expand passes t)
 
 -- "The expansion has the same arrays and one body"
 abbrev pub expansion : DeclaredPlan → Plan

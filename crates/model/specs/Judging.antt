@@ -1,4 +1,5 @@
--- Declared plans, and the rules that the judge holds a pass to (document 01, 'The plan file' and 'Judging and expanding').
+-- Declared plans, and the rules that the judge holds a pass to (document 01, 'The plan file' and 'Judging and expanding'; document 02,
+-- request a).
 use Prim.Native.Nat.{ℕ, zero, suc, _-_}
 use mathlib.Core.Path.{_≡_}
 use mathlib.Core.List.{List, [], _∷_, _++_}
@@ -73,6 +74,7 @@ every-record f Block.done = true
 every-record f (Block.act r x b) = f x && every-record f b
 every-record f (Block.branch r x y b) = every-record f x && (every-record f y && every-record f b)
 every-record f (Block.loop r x b) = every-record f x && every-record f b
+every-record f (Block.fixed r n x b) = every-record f x && every-record f b
 
 -- one way through a block: the choices before it, those left after it, and what its records come to, in order. `Leaf` says the same of one
 -- record
@@ -85,6 +87,11 @@ pub data Way {A B : Type 0} (Leaf : A → List Bool → List Bool → List B →
   leaving : {r : ℕ} {x b : Block A} {cs ds : List Bool} {w : List B} → Way Leaf b cs ds w → Way Leaf (Block.loop r x b) (false ∷ cs) ds w
   turning : {r : ℕ} {x b : Block A} {cs ds es : List Bool} {v w : List B} →
       Way Leaf x cs ds v → Way Leaf (Block.loop r x b) ds es w → Way Leaf (Block.loop r x b) (true ∷ cs) es (v ++ w)
+  -- the last turn of a fixed loop, and a turn with more to come
+  last-turn : {r : ℕ} {x b : Block A} {cs ds es : List Bool} {v w : List B} →
+      Way Leaf x cs ds v → Way Leaf b ds es w → Way Leaf (Block.fixed r zero x b) cs es (v ++ w)
+  earlier-turn : {r n : ℕ} {x b : Block A} {cs ds es : List Bool} {v w : List B} →
+      Way Leaf x cs ds v → Way Leaf (Block.fixed r n x b) ds es w → Way Leaf (Block.fixed r (suc n) x b) cs es (v ++ w)
 
 -- a record of a pass, stops aside, takes no choice and comes to itself
 pub data Itself : Action → List Bool → List Bool → List Action → Type 0 where
@@ -116,6 +123,8 @@ always-writes layout s c Block.done = false
 always-writes layout s c (Block.act r x b) = writes-cell layout s c x || always-writes layout s c b
 always-writes layout s c (Block.branch r x y b) = (always-writes layout s c x && always-writes layout s c y) || always-writes layout s c b
 always-writes layout s c (Block.loop r x b) = always-writes layout s c b
+-- "A write inside it meets a W like one outside."
+always-writes layout s c (Block.fixed r n x b) = always-writes layout s c x || always-writes layout s c b
 
 -- the same of n cells, from cell c on
 unfoldable pub all-written : Layout → Side → Block Action → ℕ → ℕ → Bool

@@ -1,4 +1,5 @@
--- Runs of a plan on a list of choices (document 01, 'Sides, cells, stamps', 'Running and viewing' and 'The words of demand 3').
+-- Runs of a plan on a list of choices (document 01, 'Sides, cells, stamps', 'Running and viewing' and 'The words of demand 3'; document
+-- 02, request a).
 use Prim.Native.Nat.{ℕ, zero, suc}
 use mathlib.Core.Path.{_≡_}
 use mathlib.Core.List.{List, [], _∷_}
@@ -8,7 +9,7 @@ use Rattle.model.specs.declared.Tally.{Tally}
 use Rattle.model.specs.Sides.{Layout, cell-count}
 use Rattle.model.specs.Records.{Action, cover-count}
 use Rattle.model.specs.Effects.{State, Deed, start, counted, deed, met, effect}
-use Rattle.model.specs.Blocks.{Block, done, act, branch, loop, _then_, Plan}
+use Rattle.model.specs.Blocks.{Block, done, act, branch, loop, fixed, _then_, Plan}
 
 -- an executed record: its number, what it is, and what it came to
 pub record Event : Type 0 where
@@ -61,7 +62,8 @@ abbrev pub stop-or : ℕ → Option ℕ → Step → Step
 stop-or r none follows = follows
 stop-or r (some c) follows = ends (stopped r c)
 
--- one step: a record is executed, or a branch or loop tested ("Each branch and each test of a loop takes one" choice)
+-- one step: a record is executed, a branch or loop tested ("Each branch and each test of a loop takes one" choice), or a turn of a fixed
+-- loop begun
 abbrev pub step : Manner → Layout → Config → Step
 step manner layout k = go (k .left) (k .choices)
   where
@@ -77,6 +79,9 @@ step manner layout k = go (k .left) (k .choices)
     go (branch r x y b) (c ∷ cs) = to (cond c x y then b) cs (k .state) (k .history)
     go (loop r x b) [] = ends (out-of-choices r)
     go (loop r x b) (c ∷ cs) = to (cond c (x then loop r x b) b) cs (k .state) (k .history)
+    -- a turn, "taking no choice": the last one, or one with more to come
+    go (fixed r zero x b) cs = to (x then b) cs (k .state) (k .history)
+    go (fixed r (suc n) x b) cs = to (x then fixed r n x b) cs (k .state) (k .history)
 
 -- "It begins at the start"
 abbrev pub begin : Plan → List Bool → Config
@@ -88,7 +93,7 @@ pub data Reached (one : Config → Step) (from : Config) : Config → Type 0 whe
   onward : {k k′ : Config} → Reached one from k → one k ≡ next k′ → Reached one from k′
 
 -- the run of a plan on a list of choices: the configurations that it reaches. Their states are the moments:
--- "the start and the state after each executed record" (a test of a branch or loop leaves the state as it is)
+-- "the start and the state after each executed record" (a test of a branch or loop, or a turn of a fixed loop, leaves the state as it is)
 abbrev pub Run : Manner → Plan → List Bool → Config → Type 0
 Run manner plan cs k = Reached (step manner (plan .layout)) (begin plan cs) k
 

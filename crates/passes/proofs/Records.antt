@@ -1,6 +1,6 @@
 -- The records of a pass one by one, arms or not: what the opening has tested of their fields and kinds.
-use mathlib.Core.Path.{_≡_, refl, _∙_}
-use mathlib.Core.Bool.{true, _&&_}
+use mathlib.Core.Path.{_≡_, refl, sym, _∙_}
+use mathlib.Core.Bool.{Bool, true, false, true≢false, _&&_}
 use mathlib.Core.List.{List}
 use Prim.Native.Nat.{ℕ, zero, suc, _+_, _≤_, _<_}
 use native.Nat.{ℕᴺ-discrete}
@@ -8,21 +8,19 @@ use native.Mathlib.Decide.{decLt}
 use native.Mathlib.Omega.{arith}
 use lib.Dec.{ltb, eqb}
 use lib.ListN.{getD}
-use borrow.Author.Tests.{ltb-true, eqb-true, le-ltb, ne-eqb}
+use borrow.Author.Tests.{ltb-true, eqb-true}
 use Rattle.model.proofs.Booleans.{and-out}
 use Rattle.reading.specs.declared.Fields.{Fields}
-use Rattle.reading.specs.Bytes.{is-declared, array-count, body-count, length-at, declarations-in, sizes-of, first-record, fields-at, first-arm, second-arm}
+use Rattle.reading.specs.Bytes.{is-declared, array-count, body-count, length-at, sizes-of, first-record, fields-at, nests, first-arm, second-arm}
 use Rattle.reading.specs.Inner.Places.{Inside}
 use Rattle.rules.specs.Rules.{fields-fit, allowed}
 use Rattle.format.specs.Inner.Walks.{Good, Walkable, block-between}
 use Rattle.format.specs.Plans.{pass-at}
-use Rattle.reading.proofs.Ranges.{of-range}
 use Rattle.reading.proofs.Tables.{first-rises, next-record}
-use Rattle.reading.proofs.FileKinds.{not-plain}
-use Rattle.rules.proofs.Fields.{Sizes, fit-declaration, fit-branch, fit-loop}
+use Rattle.rules.proofs.Fields.{Sizes, fit-declaration, fit-branch, fit-loop, fit-fixed}
 use Rattle.format.proofs.Walking.{Facts, opened-facts, good-parts}
 use Rattle.format.proofs.Acts.{cells-fit, array-fits}
-use Rattle.format.proofs.Trees.{pass-declaration, pass-walk, pass-body}
+use Rattle.format.proofs.Trees.{is-branch, is-loop, is-fixed, is-leaf, shape, ActsOrNests, acts, pass-kind, pass-declaration, pass-walk, pass-body}
 use Rattle.contents.specs.declared.Opened.{Opened}
 use Rattle.contents.specs.Inner.Findings.{found}
 use Rattle.contents.proofs.Found.{body-at}
@@ -50,36 +48,42 @@ module _ (f : List ℕ) (x : Fields) (fits : fields-fit f x ≡ true) where
   no-array : (eqb (x .side) 0 && eqb (x .array) 0 && eqb (x .zero) 0) ≡ true → x .array ≡ 0
   no-array e = eqb-true _ _ (and-out (eqb (x .side) 0) _ (and-out (eqb (x .side) 0 && eqb (x .array) 0) _ e .0) .1)
 
-  array-below : 1 ≤ array-count f → 1 ≤ x .kind → x .kind ≤ 7 → x .array < array-count f
-  array-below n h k = elim (decLt (x .kind) 4) [
-    | yes u ↦ cells-fit f x fits h (omega arith) .0 .1
-    | no u ↦ elim (decLt (x .kind) 6) [
-      | yes v ↦ array-fits f x fits (omega arith) (omega arith) .1
-      | no v ↦ elim (ℕᴺ-discrete (x .kind) 6) [
-        | yes six ↦ let z = no-array (fit-branch f x _ _ _ sizes six ∙ fits) in omega arith
-        | no more ↦
-            let seven : x .kind ≡ 7 = omega arith in
-            let z = no-array (and-out (eqb (x .side) 0 && eqb (x .array) 0 && eqb (x .zero) 0) _ (fit-loop f x _ _ _ sizes seven ∙ fits) .0) in
-            omega arith
-      ]
-    ]
+  nested-array : nests x ≡ true → x .array ≡ 0
+  nested-array n = elim (shape x) [
+    | is-branch k ↦ no-array (fit-branch f x _ _ _ sizes k ∙ fits)
+    | is-loop k ↦ no-array (and-out (eqb (x .side) 0 && eqb (x .array) 0 && eqb (x .zero) 0) _ (fit-loop f x _ _ _ sizes k ∙ fits) .0)
+    | is-fixed k ↦ no-array (and-out (eqb (x .side) 0 && eqb (x .array) 0 && eqb (x .zero) 0) _ (fit-fixed f x _ _ _ sizes k ∙ fits) .0)
+    | is-leaf e ↦ absurd (true≢false (sym n ∙ e))
   ]
 
+  acting-array : 1 ≤ x .kind → x .kind ≤ 5 → x .array < array-count f
+  acting-array h k = elim (decLt (x .kind) 4) [
+    | yes u ↦ cells-fit f x fits h (omega arith) .0 .1
+    | no u ↦ array-fits f x fits (omega arith) k .1
+  ]
+
+  array-below : 1 ≤ array-count f → ActsOrNests x → x .array < array-count f
+  array-below n k = go (nests x) refl
+    where
+      go : (b : Bool) → nests x ≡ b → x .array < array-count f
+      go true e = let z = nested-array e in omega arith
+      go false e = let a = acts x k e in acting-array (a .0) (a .1)
+
 -- each record of a good block, those of its arms included, has passed 8 and 9
-flat : (f : List ℕ) (b n depth r end : ℕ) → end ≤ r + n → Good f b depth r end → (k : ℕ) → r ≤ k → k < end → (fields-fit f (fields-at f k) ≡ true) × (allowed f b k (fields-at f k) ≡ true)
-flat f b zero depth r end l g k h m = absurd (omega arith)
-flat f b (suc n) depth r end l g k h m =
-    let p = good-parts f b depth r end (omega arith) g in
+flat : (f : List ℕ) (b n depth around r end : ℕ) → end ≤ r + n → Good f b depth around r end → (k : ℕ) → r ≤ k → k < end → (fields-fit f (fields-at f k) ≡ true) × (allowed f b k (fields-at f k) ≡ true)
+flat f b zero depth around r end l g k h m = absurd (omega arith)
+flat f b (suc n) depth around r end l g k h m =
+    let p = good-parts f b depth around r end (omega arith) g in
     let i = first-arm (fields-at f r) in
     let j = second-arm (fields-at f r) in
     let inside : r + 1 + i + j ≤ end = p .tests .inside in
     elim (ℕᴺ-discrete k r) [
       | yes e ↦ rw e (p .tests .fits, p .tests .allows)
       | no e ↦ elim (decLt k (r + 1 + i)) [
-        | yes u ↦ flat f b n (depth + 1) (r + 1) (r + 1 + i) (omega arith) (p .one) k (omega arith) u
+        | yes u ↦ flat f b n (depth + 1) _ (r + 1) (r + 1 + i) (omega arith) (p .one) k (omega arith) u
         | no u ↦ elim (decLt k (r + 1 + i + j)) [
-          | yes v ↦ flat f b n (depth + 1) (r + 1 + i) (r + 1 + i + j) (omega arith) (p .two) k (omega arith) v
-          | no v ↦ flat f b n depth (r + 1 + i + j) end (omega arith) (p .rest) k (omega arith) m
+          | yes v ↦ flat f b n (depth + 1) _ (r + 1 + i) (r + 1 + i + j) (omega arith) (p .two) k (omega arith) v
+          | no v ↦ flat f b n depth around (r + 1 + i + j) end (omega arith) (p .rest) k (omega arith) m
         ]
       ]
     ]
@@ -109,7 +113,7 @@ module _ (f : List ℕ) (e : Extent) (p : PassAt f e) where
   tested : (i : ℕ) → i < e .records → (fields-fit f (fields-at f (e .from + i)) ≡ true) × (allowed f (e .body) (e .from + i) (fields-at f (e .from + i)) ≡ true)
   tested i h =
       let g = rw (pass-end, ← p .from-is) at (facts .good (e .body) (p .high)) in
-      flat f (e .body) (e .records) 0 (e .from) (e .from + e .records) (omega arith) g (e .from + i) (omega arith) (omega arith)
+      flat f (e .body) (e .records) 0 1 (e .from) (e .from + e .records) (omega arith) g (e .from + i) (omega arith) (omega arith)
 
   -- a declaration
   module _ (i : ℕ) (h : i < e .declarations) where
@@ -121,14 +125,11 @@ module _ (f : List ℕ) (e : Extent) (p : PassAt f e) where
 
   -- a record after the declarations
   module _ (i : ℕ) (h : e .declarations ≤ i) (l : i < e .records) where
-    pub other-kind : (1 ≤ fields-at f (e .from + i) .kind) × (fields-at f (e .from + i) .kind ≤ 7)
-    unfolding allowed
-    other-kind =
-        let after : first-record f (e .body) + declarations-in f (e .body) ≤ e .from + i = rw (← p .from-is, ← p .declarations-are) (omega arith) in
-        of-range 1 7 _ (rw (not-plain f (p .declared), ne-eqb (e .body) 0 (λ z. omega (arith, p .low)), le-ltb _ _ after) at (tested i l .1))
+    pub other-kind : ActsOrNests (fields-at f (e .from + i))
+    other-kind = pass-kind f facts (p .declared) (e .body) (p .low) (p .high) (e .from + i) (rw (← p .from-is, ← p .declarations-are) (omega arith)) (tested i l .1)
 
     pub other-array : fields-at f (e .from + i) .array < array-count f
-    other-array = array-below f _ (tested i l .0) (facts .bounds .header .arrays .0) (other-kind .0) (other-kind .1)
+    other-array = array-below f _ (tested i l .0) (facts .bounds .header .arrays .0) other-kind
 
     pub other-side : fields-at f (e .from + i) .kind ≤ 3 → fields-at f (e .from + i) .side < 2
     other-side k = omega (arith, cells-fit f _ (tested i l .0) (other-kind .0) k .0 .0)

@@ -1,28 +1,28 @@
 -- The output has room for every expansion: 17 is never the answer, and what is written is the expansion's file.
 use mathlib.Core.Path.{_≡_, refl, sym, ap}
 use mathlib.Core.Bool.{false, cond}
-use mathlib.Core.List.{List, [], _∷_, _++_, append-assoc, append-nil}
+use mathlib.Core.List.{List, [], _++_, append-assoc, append-nil}
 use Prim.Native.Nat.{ℕ, _≤_}
 use native.Mathlib.Omega.{arith}
 use lib.Dec.{ltb}
 use lib.ListN.{length, take, drop, length-append}
 use lib.Seq.{take-at}
-use borrow.Author.Tests.{ltb-false, le-ltb}
+use borrow.Author.Tests.{le-ltb}
 use Rattle.io.specs.Counts.{Counts}
 use Rattle.model.specs.declared.Verdict.{Verdict}
 use Rattle.model.specs.declared.Verdict.the-variants.{Accepted, Stopped, Refused}
 use Rattle.model.specs.Blocks.{size}
 use Rattle.model.specs.Verdicts.{accepted}
-use Rattle.model.specs.Rows.{Row, row, answer-of}
+use Rattle.model.specs.Rows.{Row, answer-of}
 use Rattle.format.specs.Plans.{declared-plan-of}
 use Rattle.format.proofs.Walking.{opened-facts}
-use Rattle.model.proofs.Rows.{skipped, passed, unheld}
+use Rattle.model.proofs.Rows.{passed, unheld}
 use Rattle.reading.proofs.Tables.{arrays-counted}
 use Rattle.files.proofs.RoundTrip.{plain-length}
 use Rattle.judge.specs.Judged.{judge-rows, judged}
 use Rattle.files.specs.Expansions.{expansion-of, expansion-file}
-use Rattle.expand.specs.Expanded.{expand-answer, expanded, length-answer, length-of-expansion}
-use Rattle.expand.proofs.Laws.Answers.{accepted-file}
+use Rattle.expand.specs.Expanded.{expansion-rows, expand-answer, expanded, length-answer, length-of-expansion}
+use Rattle.expand.proofs.Laws.Answers.{accepted-file, both-passed}
 
 module _ (f : List ℕ) where
   -- an expansion has at most 1,024 records and at most 32 arrays
@@ -31,14 +31,14 @@ module _ (f : List ℕ) where
   short e few = omega (arith, plain-length (expansion-of f), arrays-counted f, opened-facts f (accepted-file f e .opened) .bounds .header .arrays)
 
   abbrev rows : List Row
-  rows = judge-rows f ++ (row (ltb 1024 (size (expansion-of f .body))) 16 0 ∷ [])
+  rows = judge-rows f ++ expansion-rows f
 
   module _ (out : List ℕ) (room : 8266 ≤ length out) where
     fits : Accepted ≡ answer-of rows → ltb (length out) (length (expansion-file f)) ≡ false
     unfolding judged
     fits e =
         let p = passed (judge-rows f) _ e in
-        le-ltb (length out) (length (expansion-file f)) (omega (arith, short (p .0) (ltb-false _ _ (skipped _ _ _ _ (p .1) .0))))
+        le-ltb (length out) (length (expansion-file f)) (omega (arith, short (p .0) (both-passed f (p .1) .0)))
 
     pub roomy : expand-answer f out ≡ length-answer f
     unfolding expand-answer length-answer

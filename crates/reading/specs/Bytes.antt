@@ -1,6 +1,6 @@
 -- The parts of a plan file, by their places in its bytes (document 01, 'The plan file').
 use Prim.Native.Nat.{ℕ, zero, suc, _+_, _*_}
-use mathlib.Core.Bool.{Bool, cond, _&&_}
+use mathlib.Core.Bool.{Bool, cond, _&&_, _||_}
 use mathlib.Core.List.{List, [], _∷_, _++_}
 use lib.ListN.{getD}
 use lib.Dec.{leb, eqb}
@@ -97,10 +97,18 @@ fields-at f r =
 abbrev pub between : ℕ → ℕ → ℕ → Bool
 between low high x = leb low x && leb x high
 
+-- whether a record has arms or a body: a branch, a loop, and "kind 9, wherever kind 7 may stand" (document 02), a fixed loop
+abbrev pub nests : Fields → Bool
+nests x = between 6 7 (x .kind) || eqb (x .kind) 9
+
 -- the records of the first arm, none where the kind has no arm
 unfoldable pub first-arm : Fields → ℕ
-first-arm x = cond (between 6 7 (x .kind)) (x .p) 0
+first-arm x = cond (nests x) (x .p) 0
 
 -- the records of the second arm, which a branch alone has
 unfoldable pub second-arm : Fields → ℕ
 second-arm x = cond (eqb (x .kind) 6) (x .q) 0
+
+-- "Q turns": those of a fixed loop, 1 of any other record
+unfoldable pub turns-of : Fields → ℕ
+turns-of x = cond (eqb (x .kind) 9) (x .q) 1

@@ -1,4 +1,4 @@
-// The kinds of files and of records, and the limits of a plan file, as document 01 numbers them.
+// The kinds of files and of records, and the limits of a plan file, as documents 01 and 02 number them.
 
 // "Byte 0: kind, 1 declared, 2 plain."
 pub const DECLARED: u8 = 1;
@@ -21,6 +21,9 @@ pub const BRANCH: u8 = 6;
 pub const LOOP: u8 = 7;
 
 pub const CALL: u8 = 8;
+
+// "kind 9, wherever kind 7 may stand": a fixed loop.
+pub const FIXED: u8 = 9;
 
 // "16 R, 17 W, 18 RW".
 pub const R: u8 = 16;
@@ -57,3 +60,8 @@ pub const CHOICES: usize = 65536;
 pub const PLAIN_DEPTH: usize = 15;
 
 pub const DECLARED_DEPTH: usize = 7;
+
+// "Q turns from 1 to 4,096", "the product of the counts passes 4,096": the limit of each.
+pub const MOST_TURNS: u16 = 4096;
+
+pub const MOST_PRODUCT: usize = 4096;

@@ -2,10 +2,11 @@
 ghost use mathlib.Core.Path.{_≡_};
 ghost use Prim.Native.Nat.{_+_, _*_, _≤_, _<_};
 ghost use lib.ListN.{length, getD};
-ghost use Rattle.reading.specs.Bytes.{byte-at, u16-at, entry-at, bodies-at, fields-at, first-arm, second-arm};
+ghost use Rattle.reading.specs.Bytes.{byte-at, u16-at, entry-at, bodies-at, fields-at, nests, first-arm, second-arm, turns-of};
 ghost use Rattle.reading.specs.Inner.Cells.{from-of, to-of};
 use kinds::BRANCH;
 use kinds::COPY;
+use kinds::FIXED;
 use kinds::LOOP;
 use kinds::STARTS;
 
@@ -68,16 +69,19 @@ pub fn record_at(plan: &[u8], bodies: usize, r: usize) -> Fields
     }
 }
 
+// Whether a record has arms or a body: a branch, a loop, a fixed loop.
+pub fn nests(x: Fields) -> bool
+    ensures { λ r. ⌜ r ≡ nests x ⌝ }
+{
+    (BRANCH <= x.kind) & (x.kind <= LOOP) | (x.kind == FIXED)
+}
+
 // How many records the first arm has, none where the kind has no such arm.
 pub fn first_arm(x: Fields) -> usize
     ensures arm { λ r. ⌜ r ≡ first-arm x ⌝ }
     ensures low { λ r. ⌜ r < 65536 ⌝ }
 {
-    if (BRANCH <= x.kind) & (x.kind <= LOOP) {
-        x.p as usize
-    } else {
-        0
-    }
+    if nests(x) { x.p as usize } else { 0 }
 }
 
 // How many records the second arm has.
@@ -86,6 +90,14 @@ pub fn second_arm(x: Fields) -> usize
     ensures low { λ r. ⌜ r < 65536 ⌝ }
 {
     if x.kind == BRANCH { x.q as usize } else { 0 }
+}
+
+// How many turns a fixed loop has; any other record counts 1.
+pub fn turns_of(x: Fields) -> usize
+    ensures turns { λ r. ⌜ r ≡ turns-of x ⌝ }
+    ensures low { λ r. ⌜ r < 65536 ⌝ }
+{
+    if x.kind == FIXED { x.q as usize } else { 1 }
 }
 
 // The cells of a record: the first, and the one after the last.

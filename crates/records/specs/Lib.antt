@@ -1,2 +1,2 @@
--- Numbers 8 to 10.
+-- Numbers 8 to 10 and 26.
 pub mod Records

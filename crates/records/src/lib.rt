@@ -1,4 +1,4 @@
-// Numbers 8 to 10: the records of all bodies.
+// Numbers 8 to 10 and 26: the records of all bodies.
 ghost use mathlib.Core.Path.{_≡_};
 ghost use Prim.Native.Nat.{ℕ, _+_, _≤_};
 ghost use Rattle.model.specs.declared.Verdict.the-variants.{Accepted};
@@ -11,48 +11,54 @@ ghost use Rattle.records.specs.Records.{block-rows, body-rows};
 use contents::Opened;
 use model::Verdict;
 use reading::first_arm;
+use reading::nests;
 use reading::record_at;
 use reading::second_arm;
+use reading::turns_of;
 use rules::record_tests;
 
-// The records from `from` up to `end`, inside `depth` branches and loops.
+// The records from `from` up to `end`, inside `depth` branches and loops, whose fixed loops have counts with the product `around`.
 pub fn block(
     plan: &[u8],
     bodies: usize,
     body: usize,
     until: usize,
     depth: usize,
+    around: usize,
     from: usize,
     end: usize,
 ) -> Verdict
-    requires { ⌜ (depth ≤ from) × (from ≤ end) × (end ≤ 1024) × Inside (now plan) bodies end × (until ≡ first-record (now plan) body + declarations-in (now plan) body) ⌝ }
-    ensures { λ v. ⌜ ((fuel : ℕ) → end ≤ from + fuel → v ≡ answer-of (block-rows fuel (now (plan .entry)) body depth from end)) ⌝ }
+    requires { ⌜ (depth ≤ from) × (from ≤ end) × (end ≤ 1024) × (around ≤ 4096) × Inside (now plan) bodies end × (until ≡ first-record (now plan) body + declarations-in (now plan) body) ⌝ }
+    ensures { λ v. ⌜ ((fuel : ℕ) → end ≤ from + fuel → v ≡ answer-of (block-rows fuel (now (plan .entry)) body depth around from end)) ⌝ }
 {
     let mut r = from;
     while r < end {
         let x = record_at(plan, bodies, r);
-        let tested = record_tests(plan, body, until, depth, end, r, x);
+        let tested = record_tests(plan, body, until, depth, around, end, r, x);
         let Verdict::Accepted = tested else {
             return tested;
         };
-        let second = r + 1 + first_arm(x);
-        let next = second + second_arm(x);
-        if r + 1 < next {
-            let one = block(plan, bodies, body, until, depth + 1, r + 1, second);
+        if nests(x) {
+            let second = r + 1 + first_arm(x);
+            let next = second + second_arm(x);
+            let within = around * turns_of(x);
+            let one = block(plan, bodies, body, until, depth + 1, within, r + 1, second);
             let Verdict::Accepted = one else {
                 return one;
             };
-            let two = block(plan, bodies, body, until, depth + 1, second, next);
+            let two = block(plan, bodies, body, until, depth + 1, within, second, next);
             let Verdict::Accepted = two else {
                 return two;
             };
+            r = next;
+        } else {
+            r += 1;
         }
-        r = next;
     }
     Verdict::Accepted
 }
 
-// Numbers 8 to 10 of every body of a file in which none of 1 to 7 holds and o was found.
+// Numbers 8 to 10 and 26 of every body of a file in which none of 1 to 7 holds and o was found.
 pub fn all_records(plan: &[u8], o: Opened) -> Verdict
     requires { ⌜ (Accepted ≡ answer-of (front-rows (now plan))) × (o ≡ found (now plan)) ⌝ }
     ensures { λ r. ⌜ r ≡ answer-of (all-rows (body-count (now (plan .entry))) (body-rows (now (plan .entry)))) ⌝ }
@@ -66,7 +72,7 @@ pub fn all_records(plan: &[u8], o: Opened) -> Verdict
         let from = starts[b] as usize;
         let end = starts[b + 1] as usize;
         let until = from + (declarations[b] as usize);
-        let v = block(plan, offset, b, until, 0, from, end);
+        let v = block(plan, offset, b, until, 0, 1, from, end);
         let Verdict::Accepted = v else {
             return v;
         };

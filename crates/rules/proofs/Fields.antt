@@ -38,7 +38,7 @@ module _ (f : List ℕ) (x : Fields) (n m s : ℕ) (z : Sizes f x n m s) where
   unfolding fields-fit
   fit-declaration h k = simp (out-of-range 1 3 (x .kind) (λ u v. omega arith), out-of-range 4 5 (x .kind) (λ u v. omega arith), in-range 16 18 (x .kind) h k) (rw (z .arrays-are))
 
-  module _ (h : 6 ≤ x .kind) (k : x .kind ≤ 8) where
+  module _ (h : 6 ≤ x .kind) (k : x .kind ≤ 9) where
     low : between 1 3 (x .kind) ≡ false
     low = out-of-range 1 3 (x .kind) (λ u v. omega arith)
 
@@ -60,8 +60,21 @@ module _ (f : List ℕ) (x : Fields) (n m s : ℕ) (z : Sizes f x n m s) where
   unfolding fields-fit
   fit-call h = simp (low (omega arith) (omega arith), middle (omega arith) (omega arith), high (omega arith) (omega arith), ne-eqb (x .kind) 6 (λ u. omega arith), ne-eqb (x .kind) 7 (λ u. omega arith), eq-eqb (x .kind) 8 h) (rw (z .bodies-are))
 
-  -- "kinds 0, 9 to 15 and 19 to 255 are unknown: .. no field tested"
-  pub fit-unknown : (1 ≤ x .kind → x .kind ≤ 8 → ⊥) → (16 ≤ x .kind → x .kind ≤ 18 → ⊥) → true ≡ fields-fit f x
+  pub fit-fixed : x .kind ≡ 9 → (eqb (x .side) 0 && eqb (x .array) 0 && eqb (x .zero) 0 && (leb 1 (x .q) && leb (x .q) 4096)) ≡ fields-fit f x
+  unfolding fields-fit
+  fit-fixed h =
+      simp (
+        low (omega arith) (omega arith),
+        middle (omega arith) (omega arith),
+        high (omega arith) (omega arith),
+        ne-eqb (x .kind) 6 (λ u. omega arith),
+        ne-eqb (x .kind) 7 (λ u. omega arith),
+        ne-eqb (x .kind) 8 (λ u. omega arith),
+        eq-eqb (x .kind) 9 h,
+      )
+
+  -- kinds 0, 10 to 15 "and 19 to 255 are unknown: .. no field tested"
+  pub fit-unknown : (1 ≤ x .kind → x .kind ≤ 9 → ⊥) → (16 ≤ x .kind → x .kind ≤ 18 → ⊥) → true ≡ fields-fit f x
   unfolding fields-fit
   fit-unknown h k =
       simp (
@@ -71,4 +84,5 @@ module _ (f : List ℕ) (x : Fields) (n m s : ℕ) (z : Sizes f x n m s) where
         ne-eqb (x .kind) 6 (λ u. h (omega arith) (omega arith)),
         ne-eqb (x .kind) 7 (λ u. h (omega arith) (omega arith)),
         ne-eqb (x .kind) 8 (λ u. h (omega arith) (omega arith)),
+        ne-eqb (x .kind) 9 (λ u. h (omega arith) (omega arith)),
       )

@@ -1,2 +1,2 @@
--- Numbers 8 to 10 of one record.
+-- Numbers 8 to 10 and 26 of one record.
 pub mod Rules

@@ -1,11 +1,11 @@
--- Numbers 8 to 10 (document 01, 'Numbers by the place where each is checked'): the rows of one record, in the table's order.
-use Prim.Native.Nat.{ℕ, _+_}
+-- Numbers 8 to 10 (document 01, 'Numbers by the place where each is checked') and 26 (document 02): the rows of one record, in order.
+use Prim.Native.Nat.{ℕ, _+_, _*_}
 use mathlib.Core.Bool.{Bool, true, cond, not, _&&_, _||_}
 use mathlib.Core.List.{List, [], _∷_}
 use lib.Dec.{ltb, leb, eqb}
 use Rattle.model.specs.Rows.{Row, row}
 use Rattle.reading.specs.declared.Fields.{Fields}
-use Rattle.reading.specs.Bytes.{is-plain, array-count, body-count, length-at, declarations-in, first-record, fields-at, between, first-arm, second-arm}
+use Rattle.reading.specs.Bytes.{is-plain, array-count, body-count, length-at, declarations-in, first-record, fields-at, between, nests, first-arm, second-arm, turns-of}
 
 -- EACH RECORD. "8 a field against its rule"; "Unused fields are zero."
 unfoldable pub fields-fit : List ℕ → Fields → Bool
@@ -24,27 +24,35 @@ fields-fit f x =
     (cond (eqb (x .kind) 7) (names-none && fourth-zero && eqb (x .q) 0)
     -- "8 call: P is a body, 1 to the last."
     (cond (eqb (x .kind) 8) (names-none && fourth-zero && eqb (x .q) 0 && leb 1 (x .p) && ltb (x .p) (body-count f))
-    -- "kinds 0, 9 to 15 and 19 to 255 are unknown: number 9, no field tested."
-    true))))
+    -- "P records, Q turns from 1 to 4,096" (document 02)
+    (cond (eqb (x .kind) 9) (names-none && fourth-zero && between 1 4096 (x .q))
+    -- kinds 0, 10 to 15 "and 19 to 255 are unknown: number 9, no field tested."
+    true)))))
+
+-- "kinds 1 to 7", and kind 9 "wherever kind 7 may stand"
+abbrev pub acts-or-nests : Fields → Bool
+acts-or-nests x = between 1 7 (x .kind) || eqb (x .kind) 9
 
 -- "9 kind not allowed there", of record r in body b: "A plain plan holds kinds 1 to 7", "Body 0 of a declared plan .. holds kinds 6, 7, 8",
--- a pass "declarations first, as many as the contents say, then kinds 1 to 7"
+-- a pass "declarations first, as many as the contents say, then kinds 1 to 7"; kind 9 "wherever kind 7 may stand"
 unfoldable pub allowed : List ℕ → ℕ → ℕ → Fields → Bool
 allowed f b r x =
-    cond (is-plain f) (between 1 7 (x .kind))
-    (cond (eqb b 0) (between 6 8 (x .kind))
+    cond (is-plain f) (acts-or-nests x)
+    (cond (eqb b 0) (between 6 9 (x .kind))
     (cond (ltb r (first-record f b + declarations-in f b)) (between 16 18 (x .kind))
-    (between 1 7 (x .kind))))
+    (acts-or-nests x)))
 
 -- "In a plain plan each stands inside at most 15 others, in a body of a declared plan inside at most 7."
 unfoldable pub deepest : List ℕ → ℕ
 deepest f = cond (is-plain f) 15 7
 
--- the rows of record r of body b, which stands inside `depth` branches and loops, in an arm or body that ends before record `end`:
--- 8, 9, then "10 arm past the end of what holds it, or nested too deep"
-unfoldable pub record-rows : List ℕ → ℕ → ℕ → ℕ → ℕ → List Row
-record-rows f b depth r end =
+-- the rows of record r of body b, which stands inside `depth` branches and loops, in an arm or body that ends before record `end`,
+-- and `around` is the product of the counts of the fixed loops that hold it: 8, 9,
+-- "10 arm past the end of what holds it, or nested too deep", "26: along some nesting the product of the counts passes 4,096"
+unfoldable pub record-rows : List ℕ → ℕ → ℕ → ℕ → ℕ → ℕ → List Row
+record-rows f b depth around r end =
     let x = fields-at f r in
     row (not (fields-fit f x)) 8 r
     ∷ row (not (allowed f b r x)) 9 r
-    ∷ row (ltb end (r + 1 + first-arm x + second-arm x) || (between 6 7 (x .kind) && ltb (deepest f) depth)) 10 r ∷ []
+    ∷ row (ltb end (r + 1 + first-arm x + second-arm x) || (nests x && ltb (deepest f) depth)) 10 r
+    ∷ row (ltb 4096 (around * turns-of x)) 26 r ∷ []

@@ -1,10 +1,10 @@
-// Numbers 8 to 10 of one record.
+// Numbers 8 to 10 and 26 of one record.
 ghost use mathlib.Core.Path.{_≡_};
 ghost use Prim.Native.Nat.{_+_, _≤_, _<_};
 ghost use lib.ListN.{length};
 ghost use Rattle.model.specs.Rows.{answer-of};
 ghost use Rattle.reading.specs.Bytes.{array-count, length-at, declarations-in, first-record, bodies-at, fields-at};
-ghost use Rattle.rules.specs.Rules.{fields-fit, allowed, deepest, record-rows};
+ghost use Rattle.rules.specs.Rules.{fields-fit, acts-or-nests, allowed, deepest, record-rows};
 use model::Verdict;
 use reading::Fields;
 use reading::byte;
@@ -13,8 +13,11 @@ use reading::kinds::BRANCH;
 use reading::kinds::CALL;
 use reading::kinds::COPY;
 use reading::kinds::DECLARED_DEPTH;
+use reading::kinds::FIXED;
 use reading::kinds::LOOP;
 use reading::kinds::MARK;
+use reading::kinds::MOST_PRODUCT;
+use reading::kinds::MOST_TURNS;
 use reading::kinds::NEED;
 use reading::kinds::PLAIN;
 use reading::kinds::PLAIN_DEPTH;
@@ -23,8 +26,10 @@ use reading::kinds::READ;
 use reading::kinds::RW;
 use reading::kinds::W;
 use reading::kinds::WRITE;
+use reading::nests;
 use reading::number_at;
 use reading::second_arm;
+use reading::turns_of;
 
 // The length of an array, zero for a number that no array has.
 fn array_size(plan: &[u8], arrays: u8, a: u8) -> u16
@@ -56,8 +61,16 @@ pub fn fields_fit(plan: &[u8], x: Fields) -> bool
         BRANCH => names_none & fourth_zero,
         LOOP => names_none & fourth_zero & (x.q == 0),
         CALL => names_none & fourth_zero & (x.q == 0) & (1 <= x.p) & (x.p < (bodies as u16)),
-        0 | 9..=15 | 19..=255 => true,
+        FIXED => names_none & fourth_zero & ((1 <= x.q) & (x.q <= MOST_TURNS)),
+        0 | 10..=15 | 19..=255 => true,
     }
+}
+
+// Whether a record has one of kinds 1 to 7, or 9.
+fn acts_or_nests(x: Fields) -> bool
+    ensures { λ r. ⌜ r ≡ acts-or-nests x ⌝ }
+{
+    (READ <= x.kind) & (x.kind <= LOOP) | (x.kind == FIXED)
 }
 
 // Number 9: whether the kind is allowed for record r of a body whose declarations end before record `until`.
@@ -67,15 +80,15 @@ pub fn kind_allowed(plan: &[u8], body: usize, until: usize, r: usize, x: Fields)
 {
     let kind = x.kind;
     if byte(plan, 0) == PLAIN {
-        return (READ <= kind) & (kind <= LOOP);
+        return acts_or_nests(x);
     }
     if body == 0 {
-        return (BRANCH <= kind) & (kind <= CALL);
+        return (BRANCH <= kind) & (kind <= FIXED);
     }
     if r < until {
         return (R <= kind) & (kind <= RW);
     }
-    (READ <= kind) & (kind <= LOOP)
+    acts_or_nests(x)
 }
 
 // How many branches and loops one may stand inside.
@@ -89,18 +102,20 @@ pub fn deepest(plan: &[u8]) -> usize
     }
 }
 
-// Numbers 8, 9 and 10 of record r, which has the fields x.
+// Numbers 8, 9, 10 and 26 of record r, which has the fields x; the counts of the fixed loops that hold it have the product `around`. Neither 10 nor 26 can
+// hold of a record without arms.
 pub fn record_tests(
     plan: &[u8],
     body: usize,
     until: usize,
     depth: usize,
+    around: usize,
     end: usize,
     r: usize,
     x: Fields,
 ) -> Verdict
-    requires { ⌜ (bodies-at (now plan) ≤ length (now plan)) × (r < 1024) × (x ≡ fields-at (now plan) r) × (until ≡ first-record (now plan) body + declarations-in (now plan) body) ⌝ }
-    ensures { λ v. ⌜ v ≡ answer-of (record-rows (now (plan .entry)) body depth r end) ⌝ }
+    requires { ⌜ (bodies-at (now plan) ≤ length (now plan)) × (r < end) × (r < 1024) × (around ≤ 4096) × (x ≡ fields-at (now plan) r) × (until ≡ first-record (now plan) body + declarations-in (now plan) body) ⌝ }
+    ensures { λ v. ⌜ v ≡ answer-of (record-rows (now (plan .entry)) body depth around r end) ⌝ }
 {
     let place = r as u16;
     if !fields_fit(plan, x) {
@@ -109,11 +124,16 @@ pub fn record_tests(
     if !kind_allowed(plan, body, until, r, x) {
         return Verdict::Refused(9, place);
     }
+    if !nests(x) {
+        return Verdict::Accepted;
+    }
     let next = r + 1 + first_arm(x) + second_arm(x);
     let limit = deepest(plan);
-    let nests = (BRANCH <= x.kind) & (x.kind <= LOOP);
-    if (end < next) | (nests & (limit < depth)) {
+    if (end < next) | (limit < depth) {
         return Verdict::Refused(10, place);
+    }
+    if MOST_PRODUCT < around * turns_of(x) {
+        return Verdict::Refused(26, place);
     }
     Verdict::Accepted
 }

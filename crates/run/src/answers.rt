@@ -16,7 +16,7 @@ use reading::kinds::CHOICES;
 use reading::kinds::PLAIN;
 use standing::Machine;
 
-// Numbers 1 to 11, 19 and 20, of a plan file that opening has found to be o.
+// Numbers 1 to 11, 19, 20 and 26, of a plan file that opening has found to be o.
 pub fn ready(
     plan: &[u8],
     o: Opened,

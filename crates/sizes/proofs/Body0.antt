@@ -76,13 +76,13 @@ module _ (f : List ℕ) (file : DeclaredFile f) where
   pub end-read : (o : Opened) → o ≡ found f → getD (o .«body_starts») 1 0 ≡ end
   end-read o e = body-start f o e (w .bounds) 1 (w .bounds .header .bodies .0) ∙ body0-ends
 
-  pub body0-kind : (r : ℕ) → allowed f 0 r (fields-at f r) ≡ true → (6 ≤ fields-at f r .kind) × (fields-at f r .kind ≤ 8)
+  pub body0-kind : (r : ℕ) → allowed f 0 r (fields-at f r) ≡ true → (6 ≤ fields-at f r .kind) × (fields-at f r .kind ≤ 9)
   unfolding allowed
-  body0-kind r e = of-range 6 8 _ (rw (not-plain f k) at e)
+  body0-kind r e = of-range 6 9 _ (rw (not-plain f k) at e)
 
   -- record r of body 0
   pub body0-tested : (r : ℕ) → r < end → Tested f 0 end r
-  body0-tested r h = good-tested f 0 0 0 end (body0-good f w) r (omega arith) h
+  body0-tested r h = good-tested f 0 0 1 0 end (body0-good f w) r (omega arith) h
 
   pub body0-called : (r : ℕ) → r < end → fields-at f r .kind ≡ 8 → (1 ≤ fields-at f r .p) × (fields-at f r .p < body-count f)
   body0-called r h e = call-body f (fields-at f r) (body0-tested r h .fits) e

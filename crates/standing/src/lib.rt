@@ -1,11 +1,11 @@
-// Where a run stands: the machine, and what it becomes after a record, at a test and at its end.
+// Where a run stands: the machine, and what it becomes after a record, at a test, at a turn of a fixed loop and at its end.
 ghost use mathlib.Core.Path.{_≡_};
 ghost use mathlib.Core.List.{List};
 ghost use Prim.Native.Nat.{ℕ, _+_, _≤_, _<_};
 ghost use lib.ListN.{length};
 ghost use Rattle.reading.specs.Bytes.{first-arm, second-arm};
-ghost use Rattle.places.specs.Inner.Places.{spot};
-ghost use Rattle.standing.specs.Inner.Standing.{runner, stored-with, past-record, after-act, tally-after, ended-with, moved-to, tested};
+ghost use Rattle.places.specs.Inner.Places.{spot, begun-at};
+ghost use Rattle.standing.specs.Inner.Standing.{runner, stored-with, past-record, after-act, tally-after, ended-with, moved-to, tested, turn-begun, led};
 use acts::Acted;
 use acts::Stored;
 use known::Known;
@@ -15,9 +15,11 @@ use model::Verdict;
 use places::Place;
 use places::choose;
 use places::settle;
+use places::turn;
 use reading::Fields;
+use reading::kinds::FIXED;
 
-// Where a run stands, its flags, what it knows of the cells, and where the plan's bodies begin; the record that the last step executed. The verdict is that of a run that has ended, accepted while it runs.
+// Where a run stands, its flags, what it knows of the cells, and where the plan's bodies begin; the record of the last step. The verdict is that of a run that has ended, accepted while it runs.
 // The counters stand in the tally alone.
 pub struct Machine {
     pub place: Place,
@@ -85,8 +87,8 @@ fn moved(m: Machine, p: Place, flags: u32, other_flags: u32, k: Known) -> Machin
 }
 
 // A branch, or a test of a loop, with the fields x.
-pub fn test(m: Machine, x: Fields, choices: &[u8], room: &mut [u16]) -> Machine
-    requires { ⌜ (m .place .depth < 16) × (m .place .used ≤ length (now choices)) × (length (now choices) ≤ 65536) × (length (now room) ≡ 65) × (m .place .end < 65536) × (m .place .at + 1 + first-arm x + second-arm x < 65536) ⌝ }
+fn test(m: Machine, x: Fields, choices: &[u8], room: &mut [u16]) -> Machine
+    requires { ⌜ (m .place .depth < 16) × (m .place .used ≤ length (now choices)) × (length (now choices) ≤ 65536) × (length (now room) ≡ 81) × (m .place .end < 65536) × (m .place .at + 1 + first-arm x + second-arm x < 65536) ⌝ }
     ensures { λ r. ⌜ runner r (now (room .exit)) ≡ tested (runner m (now (room .entry))) x (now (choices .entry)) ⌝ }
 {
     let p = m.place;
@@ -96,6 +98,26 @@ pub fn test(m: Machine, x: Fields, choices: &[u8], room: &mut [u16]) -> Machine
     }
     let q = choose(p, x, choices[used], room);
     moved(m, settle(q, room), m.flags, m.other_flags, m.known)
+}
+
+// A turn of a fixed loop with the fields x: it takes no choice.
+fn begin_turn(m: Machine, x: Fields, room: &mut [u16]) -> Machine
+    requires { ⌜ (m .place .depth < 16) × (length (now room) ≡ 81) × (m .place .end < 65536) × (m .place .at + 1 + first-arm x < 65536) × (begun-at (now room) (m .place .depth) < x .q) ⌝ }
+    ensures { λ r. ⌜ runner r (now (room .exit)) ≡ turn-begun (runner m (now (room .entry))) x ⌝ }
+{
+    let q = turn(m.place, x, room);
+    moved(m, settle(q, room), m.flags, m.other_flags, m.known)
+}
+
+// A record with arms, with the fields x: a branch, a test of a loop, or a turn of a fixed loop.
+pub fn lead(m: Machine, x: Fields, choices: &[u8], room: &mut [u16]) -> Machine
+    requires { ⌜ (m .place .depth < 16) × (m .place .used ≤ length (now choices)) × (length (now choices) ≤ 65536) × (length (now room) ≡ 81) × (m .place .end < 65536) × (m .place .at + 1 + first-arm x + second-arm x < 65536) × (x .kind ≡ 9 → begun-at (now room) (m .place .depth) < x .q) ⌝ }
+    ensures { λ r. ⌜ runner r (now (room .exit)) ≡ led (runner m (now (room .entry))) x (now (choices .entry)) ⌝ }
+{
+    if x.kind == FIXED {
+        return begin_turn(m, x, room);
+    }
+    test(m, x, choices, room)
 }
 
 // The place past a record without arms.
@@ -125,7 +147,7 @@ pub fn acted_on(m: Machine, t: Tally) -> Stored
 
 // Where the run stands after a record without arms: past it, or at its end where its need is unmet.
 pub fn after(m: Machine, r: Acted, room: &[u16]) -> Machine
-    requires { ⌜ (m .place .at < 1024) × (m .place .depth ≤ 16) × (length (now room) ≡ 65) ⌝ }
+    requires { ⌜ (m .place .at < 1024) × (m .place .depth ≤ 16) × (length (now room) ≡ 81) ⌝ }
     ensures { λ q. ⌜ runner q (now (room .entry)) ≡ after-act (runner m (now (room .entry))) r ⌝ }
 {
     let p = m.place;

@@ -2,10 +2,10 @@
 use mathlib.Core.Path.{_≡_, refl, sym, ap, _∙_}
 use mathlib.Core.Bool.{true}
 use mathlib.Core.List.{List}
-use Prim.Native.Nat.{ℕ, _+_, _≤_, _<_}
+use Prim.Native.Nat.{ℕ, zero, suc, _+_, _≤_, _<_}
 use native.Nat.{ℕᴺ-discrete}
 use native.Mathlib.Omega.{arith}
-use lib.ListN.{length, getD, set}
+use lib.ListN.{length, getD, set, replicate}
 use lib.Seq.{getD-set-same, getD-set-other}
 use borrow.Author.Tests.{lt-ltb, le-leb}
 use Rattle.model.specs.Sides.{cell-count}
@@ -22,7 +22,9 @@ use Rattle.format.proofs.Walking.{verdict-is, found-is, array-start, Facts, ope
 use Rattle.format.proofs.Trees.{plain-good, plain-body}
 use Rattle.standing.specs.Choices.{choices-of}
 use Rattle.memories.specs.Inner.Ranges.{Changed}
-use Rattle.places.specs.Inner.Places.{spot, started, rest-of, left-of, weight-of, weight, Parts}
+use Rattle.places.specs.Inner.Places.{spot, started, begun-at, rest-of, left-of, Parts, Placed}
+use Rattle.places.proofs.Places.{left-on}
+use Rattle.places.proofs.Weights.{light}
 use Rattle.standing.specs.Inner.Standing.{runner, Reaches}
 use Rattle.steps.specs.Inner.Beginning.{Fronted, first-machine, Ready}
 use Rattle.memories.proofs.Masks.{none}
@@ -30,9 +32,21 @@ use Rattle.known.proofs.Sets.{start-known}
 
 -- the start
 module _ (f choices : List ℕ) (facts : Facts f) (kind : is-plain f ≡ true) where
-  start-left : (room : List ℕ) → plan-of f .body ≡ left-of f (spot (started (record-count f)) room)
-  unfolding left-of rest-of
-  start-left room = plain-body f facts ∙ sym (then-done (block-between f 0 (record-count f)))
+  module _ (room : List ℕ) (size : length room ≡ 81) (fresh : (d : ℕ) → begun-at room d ≡ 0) where
+    start-left : plan-of f .body ≡ left-of f (spot (started (record-count f)) room)
+    unfolding rest-of
+    start-left = plain-body f facts ∙ sym (left-on f (spot (started (record-count f)) room) (fresh 0) 0 ∙ then-done (block-between f 0 (record-count f)))
+
+    start-placed : Placed f (spot (started (record-count f)) room)
+    unfolding Parts
+    start-placed = record {
+      size = size;
+      here = record { around = 1; some = omega arith; good = plain-good f facts kind; order = omega arith; inside = omega arith };
+      begun = rw (fresh 0) (λ z. absurd (omega arith));
+      behind = tt;
+      shallow = omega arith;
+      fresh = λ d l. fresh d;
+    }
 
   module _ (n : ℕ) (q : n ≡ cell-count (layout-of f)) (h c l own others latest : List ℕ)
       (rh : n ≤ length h) (rc : n ≤ length c) (rl : n ≤ length l)
@@ -40,24 +54,19 @@ module _ (f choices : List ℕ) (facts : Facts f) (kind : is-plain f ≡ true) w
     filled : (v : ℕ) (a b : List ℕ) → Changed 0 n (λ i. v) a b → (i : ℕ) → i < cell-count (layout-of f) → getD b i 0 ≡ v
     filled v a b w i k = w .cell i ∙ rw (le-leb 0 i (omega arith), lt-ltb i n (omega arith))
 
-    pub reaches-start : (bodies : ℕ) → Plain f bodies → length choices ≤ 65536 → (room : List ℕ) → length room ≡ 65 → Starts f room →
+    pub reaches-start : (bodies : ℕ) → Plain f bodies → length choices ≤ 65536 → (room : List ℕ) → length room ≡ 81 → Starts f room → ((d : ℕ) → begun-at room d ≡ 0) →
         Reaches f choices (runner (first-machine (record-count f) (array-count f) bodies) room) own others latest (record { reads = 0; writes = 0; moved = 0 })
-    unfolding weight weight-of Parts plan-of
-    reaches-start bodies plain many room e starts = record {
+    unfolding plan-of
+    reaches-start bodies plain many room e starts fresh = record {
       config = begin (plan-of f) (choices-of choices);
       run = here;
       stands = record {
         plain = plain;
         many = many;
         starts = starts;
-        placed = record {
-          size = e;
-          here = record { good = plain-good f facts kind; order = omega arith; inside = omega arith };
-          behind = tt;
-          shallow = omega arith;
-        };
+        placed = start-placed room e fresh;
         settles = λ z. refl;
-        left = start-left room;
+        left = start-left room e fresh;
         used = omega arith;
         choices-left = refl;
         holds = record {
@@ -76,11 +85,17 @@ module _ (f choices : List ℕ) (facts : Facts f) (kind : is-plain f ≡ true) w
           past = past (plan-of f) {cs = choices-of choices} here;
           knows = rw (arrays-counted f) at (start-known (layout-of f) own others latest (λ c i. filled 0 h own on-host c i ∙ sym (filled 0 l latest on-latest c i)));
         };
-        few = omega (arith, facts .bounds .records);
+        few = omega (arith, light f (facts .bounds .records) _ (start-placed room e fresh));
         few-moved = omega arith;
       };
       ended = tt;
     }
+
+-- a room of zeros
+pub all-zero : (n i : ℕ) → getD (replicate {A = ℕ} n 0) i 0 ≡ 0
+all-zero zero i = refl
+all-zero (suc n) zero = refl
+all-zero (suc n) (suc i) = all-zero n i
 
 -- one entry more at the front of the room
 pub front-next : (starts room : List ℕ) (a : ℕ) → a < length room → ((i : ℕ) → i < a → getD room i 0 ≡ getD starts i 0) → (i : ℕ) → i < a + 1 → getD (set room a (getD starts a 0)) i 0 ≡ getD starts i 0
@@ -103,5 +118,5 @@ module _ (f : List ℕ) (o : Opened) (choices own others latest : List ℕ) (r :
   pub ready-starts : Starts f (o .«array_starts»)
   ready-starts = record { first = array-start f o ready-found (ready-facts .bounds) }
 
-  pub ready-front : (room : List ℕ) → Fronted (o .«array_starts») room → Starts f room
-  ready-front room w = record { first = λ a h. w .front a (omega (arith, ready-facts .bounds .header .arrays .1)) ∙ ready-starts .first a h }
+  pub ready-front : (before room : List ℕ) → Fronted (o .«array_starts») before room → Starts f room
+  ready-front before room w = record { first = λ a h. w .front a (omega (arith, ready-facts .bounds .header .arrays .1)) ∙ ready-starts .first a h }

@@ -39,8 +39,8 @@ fn write_start(host: &mut [u64], card: &mut [u64], latest: &mut [u64], cells: us
 
 // Puts the first cells of the arrays at the front of the room.
 fn put_starts(starts: &[u16; STARTS], room: &mut [u16])
-    requires { ⌜ length (now room) ≡ 65 ⌝ }
-    ensures { λ _. ⌜ Fronted (now (starts .entry)) (now (room .exit)) ⌝ }
+    requires { ⌜ length (now room) ≡ 81 ⌝ }
+    ensures { λ _. ⌜ Fronted (now (starts .entry)) (now (room .entry)) (now (room .exit)) ⌝ }
 {
     let mut a = 0usize;
     while a < 33 {

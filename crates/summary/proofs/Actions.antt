@@ -11,7 +11,7 @@ use Rattle.reading.specs.declared.Fields.{Fields}
 use Rattle.reading.specs.Bytes.{layout-of, fields-at, first-arm, second-arm}
 use Rattle.format.specs.Plans.{action-of}
 use Rattle.format.specs.Inner.Walks.{Walkable, block-between}
-use Rattle.format.proofs.Trees.{block-act, no-arms}
+use Rattle.format.proofs.Trees.{low-leaf, block-act, no-arms}
 use Rattle.format.proofs.Acts.{by-kind}
 use Rattle.lookahead.specs.Inner.Ahead.{cell-at, covers}
 use Rattle.summary.proofs.Touched.{covers-here}
@@ -20,9 +20,10 @@ module _ (x : Fields) (h : (1 ≤ x .kind) × (x .kind ≤ 5)) where
   -- record r of those up to `end`
   pub next-act : (f : List ℕ) (r end : ℕ) → r < end → Walkable f r end → x ≡ fields-at f r → block-between f r end ≡ act r (action-of x) (block-between f (r + 1) end)
   next-act f r end l g e =
-      let a = no-arms x (λ z. omega arith) (λ z. omega arith) in
+      let leaf = low-leaf x (h .1) in
+      let a = no-arms x leaf in
       let n : r + 1 + first-arm x + second-arm x ≡ r + 1 = omega (arith, a) in
-      rw n at (block-act f r end l g x e (λ z. omega arith) (λ z. omega arith))
+      rw n at (block-act f r end l g x e leaf)
 
   act-whole : whole (action-of x .verb) ≡ leb 4 (x .kind)
   act-whole = by-kind x h (λ y. whole (y .verb) ≡ leb 4 (x .kind)) (λ z. rw z) (λ z. rw z) (λ z. rw z) (λ z. rw z) (λ z. rw z)

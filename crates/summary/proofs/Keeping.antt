@@ -1,5 +1,5 @@
 -- The rows that a walk keeps, and what is known of a row that it finds.
-use Prim.Native.Nat.{ℕ, _+_, _*_, _/_, _%_, _≤_, _<_}
+use Prim.Native.Nat.{ℕ, _+_, _-_, _*_, _/_, _%_, _≤_, _<_}
 use mathlib.Core.Path.{_≡_, sym, _∙_}
 use mathlib.Core.Logic.{inl}
 use mathlib.Core.List.{List}
@@ -11,8 +11,9 @@ use lib.ListN.{length, length-set, getD, set, replicate, length-replicate, getD-
 use lib.Seq.{getD-set-same, getD-set-other}
 use borrow.Author.Tests.{eqb-true, eq-eqb, ne-eqb}
 use Rattle.model.specs.Records.{Action}
-use Rattle.model.specs.Blocks.{Block, done, loop}
+use Rattle.model.specs.Blocks.{Block, done, loop, fixed}
 use Rattle.model.proofs.Status.{Status}
+use Rattle.reading.specs.declared.Fields.{Fields}
 use Rattle.reading.specs.Bytes.{layout-of, record-count}
 use Rattle.format.specs.Inner.Walks.{block-between}
 use Rattle.statuses.specs.declared.acts.Found.{Found}
@@ -118,13 +119,18 @@ module _ (f : List ℕ) (c class : ℕ) where
           | no n ↦ let z = getD-set-other rows (16 * r + w) (16 * k + v) y 0 n in rw z (p .exact .row k v j (rw z at g))
         ]
 
-  -- a branch: its arms one after the other, each from the same statuses
-  pub passed-branch : (kind r : ℕ) (x y : Block Action) (rows rows′ : List ℕ) (from : Status → Type 0) (low : ℕ) (one two t : Found) → kind ≡ 6 → Union (t .set) (one .set) (two .set) → t .low ≡ two .low →
-      Passed f c class x from low rows one → Passed f c class y from (one .low) rows′ two → Passed f c class (nest kind r x y) from low rows′ t
-  passed-branch kind r x y rows rows′ from low one two t e ts tl p q = record {
-    ran = rw (eq-eqb kind 6 e) (ran-branch (layout-of f) c x y from low one two (p .ran) r (q .ran) t ts tl);
-    exact = rw tl (q .exact);
-  }
+  -- what stands at record r, by its fields x
+  module _ (x : Fields) (r : ℕ) (a b : Block Action) (from : Status → Type 0) (low : ℕ) where
+    -- a branch: its arms one after the other, each from the same statuses
+    pub passed-branch : (rows rows′ : List ℕ) (one two t : Found) → x .kind ≡ 6 → Union (t .set) (one .set) (two .set) → t .low ≡ two .low →
+        Passed f c class a from low rows one → Passed f c class b from (one .low) rows′ two → Passed f c class (nest x r a b) from low rows′ t
+    passed-branch rows rows′ one two t e ts tl p q = record {
+      ran = rw (eq-eqb (x .kind) 6 e) (ran-branch (layout-of f) c a b from low one two (p .ran) r (q .ran) t ts tl);
+      exact = rw tl (q .exact);
+    }
 
-  pub passed-loop : (kind r : ℕ) (x y : Block Action) (from : Status → Type 0) (low : ℕ) (rows : List ℕ) (t : Found) → (kind ≡ 6 → ⊥) → Passed f c class (loop r x done) from low rows t → Passed f c class (nest kind r x y) from low rows t
-  passed-loop kind r x y from low rows t n p = rw (ne-eqb kind 6 n) p
+    pub passed-fixed : (rows : List ℕ) (t : Found) → x .kind ≡ 9 → Passed f c class (fixed r (x .q - 1) a done) from low rows t → Passed f c class (nest x r a b) from low rows t
+    passed-fixed rows t e p = rw (ne-eqb (x .kind) 6 (λ z. omega arith), eq-eqb (x .kind) 9 e) p
+
+    pub passed-loop : (rows : List ℕ) (t : Found) → (x .kind ≡ 6 → ⊥) → (x .kind ≡ 9 → ⊥) → Passed f c class (loop r a done) from low rows t → Passed f c class (nest x r a b) from low rows t
+    passed-loop rows t n m p = rw (ne-eqb (x .kind) 6 n, ne-eqb (x .kind) 9 m) p

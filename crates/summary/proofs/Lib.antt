@@ -5,6 +5,7 @@ pub mod Blocks
 pub mod Ways
 pub mod Skips
 pub mod Turns
+pub mod Powers
 pub mod Keeping
 pub mod Actions
 pub mod Passing

@@ -12,7 +12,7 @@ use lib.ListN.{getD}
 use borrow.Author.Tests.{leb-true, leb-false, ltb-false}
 use Rattle.model.specs.Sides.{cell-count, span-of}
 use Rattle.model.specs.Records.{Action}
-use Rattle.model.specs.Blocks.{Block, done, act, branch, loop, _then_}
+use Rattle.model.specs.Blocks.{Block, done, act, branch, loop, fixed, _then_}
 use Rattle.model.proofs.Numbering.{array-ends}
 use Rattle.model.proofs.Through.{then-done}
 use Rattle.reading.specs.declared.Fields.{Fields}
@@ -20,7 +20,7 @@ use Rattle.reading.specs.Bytes.{first-arm, second-arm, layout-of, record-count,
 use Rattle.format.specs.Plans.{action-of}
 use Rattle.format.specs.Inner.Walks.{Plain, Walkable, block-between}
 use Rattle.format.proofs.Walking.{opened-facts}
-use Rattle.format.proofs.Trees.{block-none, block-branch, block-loop}
+use Rattle.format.proofs.Trees.{is-branch, is-loop, is-fixed, is-leaf, shape, acts, block-none, block-branch, block-loop, block-fixed}
 use Rattle.format.proofs.Acts.{Here, here, after-act}
 use Rattle.lookahead.specs.Inner.Ahead.{cell-at, covers, Ahead}
 use Rattle.summary.proofs.Touched.{spares}
@@ -103,22 +103,24 @@ module _ (f : List ℕ) (bodies : ℕ) (w : Plain f bodies) (c array offset : �
 
     skip-nest : 6 ≤ fields-at f r .kind → (second next : ℕ) → second ≡ r + 1 + first-arm (fields-at f r) → next ≡ second + second-arm (fields-at f r) →
         Skipped f c (r + 1) second second → Skipped f c second next next → Skipped f c next m end → Skipped f c r m end
-    skip-nest k second next es en one two t = elim (ℕᴺ-discrete (fields-at f r .kind) 6) [
-      | yes z ↦ record {
-        passed = branch r (block-between f (r + 1) second) (block-between f second next) (t .passed);
-        untouched = (skipped-all (r + 1) second one, skipped-all second next two, t .untouched);
-        joins = ap (branch r (block-between f (r + 1) second) (block-between f second next)) (t .joins) ∙ sym (rw (en, es) (block-branch f r end h g (fields-at f r) refl z));
-        walk = t .walk;
-        later = omega (arith, t .later);
-      }
-      | no z ↦ record {
-        passed = loop r (block-between f (r + 1) second) (t .passed);
-        untouched = (skipped-all (r + 1) second one, t .untouched);
-        joins = ap (loop r (block-between f (r + 1) second)) (t .joins) ∙ sym (rw (en, es) (block-loop f r end h g (fields-at f r) refl (omega (arith, known .high))));
-        walk = t .walk;
-        later = omega (arith, t .later);
-      }
+    skip-nest k second next es en one two t = elim (shape x) [
+      | is-branch z ↦ let b = branch r first (block-between f second next) in
+          passes-by (b (t .passed)) (skipped-all (r + 1) second one, skipped-all second next two, t .untouched) (ap b (t .joins) ∙ sym (rw (en, es) (block-branch f r end h g x refl z)))
+      | is-loop z ↦ let b = loop r first in
+          passes-by (b (t .passed)) (skipped-all (r + 1) second one, t .untouched) (ap b (t .joins) ∙ sym (rw (en, es) (block-loop f r end h g x refl z)))
+      | is-fixed z ↦ let b = fixed r (x .q - 1) first in
+          passes-by (b (t .passed)) (skipped-all (r + 1) second one, t .untouched) (ap b (t .joins) ∙ sym (rw (en, es) (block-fixed f r end h g x refl z)))
+      | is-leaf z ↦ absurd (let y = acts x (known .low, known .high, known .no-call) z in omega arith)
     ]
+      where
+        x : Fields
+        x = fields-at f r
+
+        first : Block Action
+        first = block-between f (r + 1) second
+
+        passes-by : (b : Block Action) → Untouched (layout-of f) c b → b then block-between f m end ≡ block-between f r end → Skipped f c r m end
+        passes-by b u e = record { passed = b; untouched = u; joins = e; walk = t .walk; later = omega (arith, t .later) }
 
   -- up to the end, or up to the record that the table names
   passes : (n r end m : ℕ) → Walkable f r end → end ≤ r + n → end ≤ record-count f → r ≤ m → m ≤ end → m ≤ at r → (m ≡ end) ⊎ (m ≡ at r) → Skipped f c r m end

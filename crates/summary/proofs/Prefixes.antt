@@ -1,21 +1,20 @@
 -- A walk over the records of a block: the records read so far make a block of which it is known what is found, and it goes on with the block of those left.
-use Prim.Native.Nat.{ℕ, _+_, _≤_, _<_}
+use Prim.Native.Nat.{ℕ, _+_, _-_, _≤_, _<_}
 use mathlib.Core.Path.{_≡_, refl, sym, ap, subst, _∙_}
 use mathlib.Core.Bool.{true, false}
 use mathlib.Core.List.{List}
-use native.Nat.{ℕᴺ-discrete}
 use native.Mathlib.Omega.{arith}
 use borrow.Author.Tests.{eq-eqb, ne-eqb}
 use Rattle.model.specs.Sides.{span-of}
 use Rattle.model.specs.Records.{Action}
-use Rattle.model.specs.Blocks.{Block, done, act, branch, loop, _then_}
+use Rattle.model.specs.Blocks.{Block, done, act, branch, loop, fixed, _then_}
 use Rattle.model.proofs.Through.{then-done}
 use Rattle.model.proofs.Demand.Blocks.{then-assoc}
 use Rattle.reading.specs.declared.Fields.{Fields}
 use Rattle.reading.specs.Bytes.{layout-of, record-count, fields-at, first-arm, second-arm}
 use Rattle.format.specs.Plans.{side-of, verb-of, action-of}
 use Rattle.format.specs.Inner.Walks.{Walkable, block-between}
-use Rattle.format.proofs.Trees.{block-none, block-branch, block-loop}
+use Rattle.format.proofs.Trees.{is-branch, is-loop, is-fixed, is-leaf, shape, acts, block-none, block-branch, block-loop, block-fixed}
 use Rattle.format.proofs.Acts.{Arms}
 use Rattle.statuses.specs.declared.acts.Found.{Found}
 use Rattle.lookahead.specs.Inner.Ahead.{cell-at, covers}
@@ -68,13 +67,16 @@ module _ (f : List ℕ) (c from end r : ℕ) (h : r < end) (g : Walkable f r end
   step-act array offset is inside k u m = prefix-more f c from end start t t′ r (r + 1) (act r (action-of x) done) p (next-act x k f r end h g e)
       (ran-touched (layout-of f) c r (action-of x) t t′ (rw is (act-covers x k f array offset inside) ∙ u) m)
 
-  module _ (low : 6 ≤ x .kind) (high : x .kind ≤ 7) (i j : ℕ) (ei : i ≡ first-arm x) (ej : j ≡ second-arm x) where
-    pub step-arms : Found-in (layout-of f) c (nest (x .kind) r (block-between f (r + 1) (r + 1 + i)) (block-between f (r + 1 + i) (r + 1 + i + j))) (In (t .set)) (t .low) t′ →
+  module _ (low : 6 ≤ x .kind) (high : x .kind ≤ 9) (no-call : x .kind ≡ 8 → ⊥) (i j : ℕ) (ei : i ≡ first-arm x) (ej : j ≡ second-arm x) where
+    pub step-arms : Found-in (layout-of f) c (nest x r (block-between f (r + 1) (r + 1 + i)) (block-between f (r + 1 + i) (r + 1 + i + j))) (In (t .set)) (t .low) t′ →
         Prefix f c from (r + 1 + i + j) end start t′
     step-arms m =
         let first = block-between f (r + 1) (r + 1 + i) in
         let second = block-between f (r + 1 + i) (r + 1 + i + j) in
-        elim (ℕᴺ-discrete (x .kind) 6) [
-          | yes z ↦ prefix-more f c from end start t t′ r (r + 1 + i + j) (branch r first second done) p (rw (ei, ej) (block-branch f r end h g x e z)) (rw (eq-eqb (x .kind) 6 z) at m)
-          | no z ↦ prefix-more f c from end start t t′ r (r + 1 + i + j) (loop r first done) p (rw (ei, ej) (block-loop f r end h g x e (omega arith))) (rw (ne-eqb (x .kind) 6 z) at m)
+        let on = prefix-more f c from end start t t′ r (r + 1 + i + j) in
+        elim (shape x) [
+          | is-branch z ↦ on (branch r first second done) p (rw (ei, ej) (block-branch f r end h g x e z)) (rw (eq-eqb (x .kind) 6 z) at m)
+          | is-loop z ↦ on (loop r first done) p (rw (ei, ej) (block-loop f r end h g x e z)) (rw (ne-eqb (x .kind) 6 (λ y. omega arith), ne-eqb (x .kind) 9 (λ y. omega arith)) at m)
+          | is-fixed z ↦ on (fixed r (x .q - 1) first done) p (rw (ei, ej) (block-fixed f r end h g x e z)) (rw (ne-eqb (x .kind) 6 (λ y. omega arith), eq-eqb (x .kind) 9 z) at m)
+          | is-leaf z ↦ absurd (let y = acts x (omega arith, high, no-call) z in omega arith)
         ]

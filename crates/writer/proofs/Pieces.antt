@@ -14,9 +14,9 @@ use Rattle.reading.specs.Bytes.{body-count, records-in, fields-at, first-arm, s
 use Rattle.files.specs.Files.{record-bytes, fields}
 use Rattle.files.specs.Inner.Short.{block-fields}
 use Rattle.files.proofs.Files.Records.{fields-count}
-use Rattle.sizes.specs.Inner.Sizes.{DeclaredFile, called, record-size, place, Places}
+use Rattle.sizes.specs.Inner.Sizes.{DeclaredFile, called, second-field, record-size, place, Places}
 use Rattle.given.specs.Inner.Over.{over, bytes-of}
-use Rattle.writer.specs.Inner.Pieces.{Arms, nested, piece, pieces}
+use Rattle.writer.specs.Inner.Pieces.{Arms, grown-second, nested, piece, pieces}
 use Rattle.given.proofs.Records.{bytes-one, bytes-lent}
 use Rattle.sizes.proofs.Walks.{second, next}
 use Rattle.sizes.proofs.Body0.{record-call, record-one, place-within, body0-tested, body0-called, body0-few}
@@ -27,7 +27,7 @@ module _ (f : List ℕ) (r : ℕ) where
   unfolding piece
   piece-call k = rw (eq-eqb (fields-at f r .kind) 8 k)
 
-  pub piece-nested : (fields-at f r .kind ≡ 8 → ⊥) → piece f r ≡ fields (fields-at f r .kind) 0 0 (place f (second f r) - place f (r + 1)) (place f (next f r) - place f (second f r)) ∷ []
+  pub piece-nested : (fields-at f r .kind ≡ 8 → ⊥) → piece f r ≡ fields (fields-at f r .kind) 0 0 (place f (second f r) - place f (r + 1)) (second-field (fields-at f r) (place f (next f r) - place f (second f r))) ∷ []
   unfolding piece
   piece-nested k = rw (ne-eqb (fields-at f r .kind) 8 k)
 
@@ -89,7 +89,7 @@ module _ (f : List ℕ) (file : DeclaredFile f) where
     nested-room = record-one f r other
 
     pub nested-written : (old new : List ℕ) → new ≡ over (record-bytes (nested places r x)) old → new ≡ over (bytes-of (piece f r)) old
-    unfolding nested
+    unfolding nested grown-second
     nested-written old new w =
         let second = r + 1 + first-arm x in
         w ∙ rw (bytes-one, t .each (r + 1) (omega (arith, inside)), t .each second (omega (arith, inside)), t .each (second + second-arm x) inside, piece-nested f r other, e)

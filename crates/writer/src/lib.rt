@@ -13,7 +13,7 @@ ghost use Rattle.files.specs.Expansions.{expansion-file};
 ghost use Rattle.passes.specs.Inner.Passes.{PassAt};
 ghost use Rattle.sizes.specs.Inner.Sizes.{DeclaredFile, called, record-size, place, Places};
 ghost use Rattle.given.specs.Inner.Over.{over, bytes-of};
-ghost use Rattle.writer.specs.Inner.Pieces.{Arms, nested, piece, pieces, contents-bytes};
+ghost use Rattle.writer.specs.Inner.Pieces.{Arms, grown-second, nested, piece, pieces, contents-bytes};
 use check_bytes::check_sums;
 use contents::Opened;
 use given::put_declarations;
@@ -22,6 +22,7 @@ use passes::Extent;
 use passes::extent_of;
 use reading::Fields;
 use reading::first_arm;
+use reading::kinds::BRANCH;
 use reading::kinds::CALL;
 use reading::kinds::PLACES;
 use reading::kinds::PLAIN;
@@ -62,14 +63,24 @@ pub fn grown(places: &[u32; PLACES], from: usize, count: usize) -> u16
     (places[next] - places[from]) as u16
 }
 
+// Q of a branch or a loop, record r of body 0 with the fields x: of a branch grown to fit, of a fixed loop as it is.
+pub fn second_field(places: &[u32; PLACES], r: usize, x: Fields) -> u16
+    requires { ⌜ Arms (now places) r x ⌝ }
+    ensures { λ q. ⌜ q ≡ grown-second (now (places .entry)) r x ⌝ }
+{
+    if x.kind != BRANCH {
+        return x.q;
+    }
+    grown(places, r + 1 + first_arm(x), second_arm(x))
+}
+
 // A branch or a loop, record r of body 0 with the fields x, with its arm counts grown to fit.
 pub fn put_nested(places: &[u32; PLACES], out: &mut [u8], r: usize, x: Fields)
     requires { ⌜ Arms (now places) r x × (8 ≤ length (now out)) ⌝ }
     ensures { λ _. ⌜ now (out .exit) ≡ over (record-bytes (nested (now (places .entry)) r x)) (now (out .entry)) ⌝ }
 {
-    let first = first_arm(x);
-    let p = grown(places, r + 1, first);
-    let q = grown(places, r + 1 + first, second_arm(x));
+    let p = grown(places, r + 1, first_arm(x));
+    let q = second_field(places, r, x);
     put_record(
         out,
         Fields {

@@ -259,6 +259,11 @@ fn bench_check() {
     let flat = one("check: 1 level of loops, 1,024 records", &deep_loops(1, 1024));
     println!("{:<48} {:.2} times the time", "check: 1,024 records beside 512", long / short);
     println!("{:<48} {:.2} times the time", "check: 16 levels beside 1", long / flat);
+    let deep = one("check: 12 levels of two turns, 1,024 records", &deep_fixed(&[2; 12], 1024));
+    let wide = one("check: one loop of 4,096 turns, 1,024 records", &deep_fixed(&[4096], 1024));
+    let once = one("check: one loop of one turn, 1,024 records", &deep_fixed(&[1], 1024));
+    println!("{:<48} {:.2} times the time", "check: 12 levels of two turns beside one turn", deep / once);
+    println!("{:<48} {:.2} times the time", "check: 4,096 turns beside one", wide / once);
 }
 
 fn judge_inputs() -> Vec<Inputs> {
@@ -302,6 +307,7 @@ fn run_inputs() -> Vec<(Inputs, Vec<u8>)> {
     let in_turn = [copy(1, 0, 0, 64), copy(1, 1, 0, 64), copy(0, 0, 0, 64), copy(0, 1, 0, 64)];
     let mixed = [write(0, 0, 0, 1), need(1, 1), copy(1, 0, 0, 1), read(1, 0, 0, 1), mark(0, 1)];
     let nested = (0..20).map(|_| nested(&mut rng)).collect();
+    let fixed = |counts: &[u16]| vec![encode(&deep_fixed(counts, 1024))];
     let at_random = choices(&mut rng, 65_536, 90);
     let short = choices(&mut rng, 40, 40);
     vec![
@@ -310,6 +316,9 @@ fn run_inputs() -> Vec<(Inputs, Vec<u8>)> {
         (("run: the same of two arrays in turn", looping(&[64, 64], &in_turn)), turns.clone()),
         (("run: long run, one-cell records", looping(&[1, 1], &mixed)), turns.clone()),
         (("run: choices alone", looping(&[1], &[])), turns),
+        (("run: 12 levels of two turns, 1,024 records", fixed(&[2; 12])), vec![]),
+        (("run: one loop of 4,096 turns, 1,024 records", fixed(&[4096])), vec![]),
+        (("run: 4,096 turns of nothing", vec![encode(&deep_fixed(&[4096], 1))]), vec![]),
         (("run: nested branches and loops at random", nested), at_random),
         (("run: ten thousand short runs", small_plans(96, 10_000)), short),
     ]

@@ -65,6 +65,17 @@ pub fn whole_arrays(length: u16) -> Draft {
 
 /// `levels` loops, one in another, and `records` records in all.
 pub fn deep_loops(levels: usize, records: usize) -> Draft {
+    loops_in_loops(&vec![Step::Loop; levels], records)
+}
+
+/// Fixed loops of these counts, one in another, innermost first, and `records`
+/// records in all.
+pub fn deep_fixed(counts: &[u16], records: usize) -> Draft {
+    let fixed = |&turns: &u16| move |arm| Step::Fixed(turns, arm);
+    loops_in_loops(&counts.iter().map(fixed).collect::<Vec<_>>(), records)
+}
+
+fn loops_in_loops(loops: &[impl Fn(Vec<Step>) -> Step], records: usize) -> Draft {
     let acts = |count: usize| {
         let act = |i: usize| match i % 4 {
             0 => write(0, 0, 0, 1),
@@ -74,10 +85,11 @@ pub fn deep_loops(levels: usize, records: usize) -> Draft {
         };
         (0..count).map(act).collect::<Vec<_>>()
     };
+    let levels = loops.len();
     let each = (records - levels) / (levels + 1);
     let mut steps = acts(records - levels - each * levels);
-    for _ in 0..levels {
-        steps = vec![Step::Loop(steps)];
+    for turning in loops {
+        steps = vec![turning(steps)];
         steps.extend(acts(each));
     }
     Draft::plain(&[1], &steps)

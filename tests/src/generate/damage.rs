@@ -246,7 +246,7 @@ fn harm_fields(rng: &mut Rng, draft: &Draft, file: &mut [u8]) {
 fn harm_kind(rng: &mut Rng, draft: &Draft, file: &mut [u8]) {
     let Some((at, _)) = some_record(rng, draft, file) else { return };
     match rng.below(4) {
-        // An unknown kind, its fields as they come.
+        // An unknown kind or a fixed loop, its fields as they come.
         0 => {
             file[at] = rng.pick(&[0, 9, 10, 15, 19, 20, 128, 255]);
             if rng.chance(50) {

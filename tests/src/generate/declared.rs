@@ -238,7 +238,7 @@ pub fn spoil(rng: &mut Rng, arrays: &[u16], pass: &mut Pass, fault: Fault) {
 fn insert(rng: &mut Rng, steps: &mut Vec<Step>, step: Step) {
     let at = rng.between(0, steps.len());
     match steps.get_mut(at) {
-        Some(Step::Loop(arm)) if rng.chance(70) => insert(rng, arm, step),
+        Some(Step::Loop(arm) | Step::Fixed(_, arm)) if rng.chance(70) => insert(rng, arm, step),
         Some(Step::Branch(first, second)) if rng.chance(70) => {
             let arm = if rng.chance(50) { first } else { second };
             insert(rng, arm, step);
@@ -255,6 +255,7 @@ fn without_writes(steps: &[Step], array: u8) -> Vec<Step> {
             Step::Branch(without_writes(first, array), without_writes(second, array))
         }
         Step::Loop(arm) => Step::Loop(without_writes(arm, array)),
+        Step::Fixed(turns, arm) => Step::Fixed(*turns, without_writes(arm, array)),
     })
     .collect()
 }

@@ -20,6 +20,11 @@ pub fn every_act(arrays: &[u16]) -> Vec<Raw> {
 
 /// All blocks of exactly `records` records over these acts.
 pub fn every_block(acts: &[Raw], records: usize) -> Vec<Vec<Raw>> {
+    every_block_fixed(acts, &[], records)
+}
+
+/// The same with fixed loops of these counts.
+pub fn every_block_fixed(acts: &[Raw], counts: &[u16], records: usize) -> Vec<Vec<Raw>> {
     let mut blocks: Vec<Vec<Vec<Raw>>> = vec![vec![vec![]]];
     for size in 1..=records {
         let mut found = Vec::new();
@@ -34,9 +39,11 @@ pub fn every_block(acts: &[Raw], records: usize) -> Vec<Vec<Raw>> {
                     found.extend(rests.iter().map(|rest| join(&[&[head], first, second, rest])));
                 }
             }
-            let head = raw(7, 0, 0, p as u16, 0);
-            for (arm, rest) in pairs(&blocks[p], &blocks[size - 1 - p]) {
-                found.push(join(&[&[head], arm, rest]));
+            let fixed = counts.iter().map(|&turns| raw(9, 0, 0, p as u16, turns));
+            for head in [raw(7, 0, 0, p as u16, 0)].into_iter().chain(fixed) {
+                for (arm, rest) in pairs(&blocks[p], &blocks[size - 1 - p]) {
+                    found.push(join(&[&[head], arm, rest]));
+                }
             }
         }
         blocks.push(found);
@@ -54,8 +61,13 @@ fn join(parts: &[&[Raw]]) -> Vec<Raw> {
 
 /// All plain plans of at most `records` records over these arrays.
 pub fn every_plan(arrays: &[u16], records: usize) -> Vec<Draft> {
+    every_plan_fixed(arrays, &[], records)
+}
+
+/// The same with fixed loops of these counts.
+pub fn every_plan_fixed(arrays: &[u16], counts: &[u16], records: usize) -> Vec<Draft> {
     let acts = every_act(arrays);
-    let blocks = (0..=records).flat_map(|size| every_block(&acts, size));
+    let blocks = (0..=records).flat_map(|size| every_block_fixed(&acts, counts, size));
     let draft = |records| Draft {
         kind: 2,
         arrays: arrays.to_vec(),

@@ -48,7 +48,9 @@ pub fn brute(plan: &Plan) -> Option<Stop> {
 
 /// Breadth-first over (position, world); only these cells are watched, at most
 /// 64, ascending. Positions are record numbers: "Branches and loops are free:
-/// every arm and every count from zero up is possible."
+/// every arm and every count from zero up is possible." Inside fixed loops a
+/// position has their turns with it: "The verdict covers the fixed counts exactly
+/// and free loops as before."
 pub fn brute_on(plan: &Plan, cells: &[usize]) -> Option<Stop> {
     assert!(cells.len() <= 64);
     let end = plan.records.len();
@@ -59,10 +61,11 @@ pub fn brute_on(plan: &Plan, cells: &[usize]) -> Option<Stop> {
     // "At the start latest and host are 0 and the card holds never"; flags "at
     // the start set for the host only".
     let start = World { current: [all, 0], flags: [arrays, 0] };
-    let mut seen = HashSet::from([(0, start)]);
-    let mut queue = VecDeque::from([(0, start)]);
+    let start = ((0, Turns::default()), start);
+    let mut seen = HashSet::from([start.clone()]);
+    let mut queue = VecDeque::from([start]);
     let mut lowest: Option<Stop> = None;
-    while let Some((at, world)) = queue.pop_front() {
+    while let Some(((at, turns), world)) = queue.pop_front() {
         if at == end {
             continue;
         }
@@ -71,13 +74,25 @@ pub fn brute_on(plan: &Plan, cells: &[usize]) -> Option<Stop> {
             let stop = Stop { record: at, cell: cells[unmet.trailing_zeros() as usize] };
             lowest = Some(lowest.map_or(stop, |known| known.min(stop)));
         }
-        for next in [flow.first(at), flow.second(at)] {
-            if seen.insert((next, after)) {
+        for next in places_after(plan, &flow, at, turns) {
+            if seen.insert((next.clone(), after)) {
                 queue.push_back((next, after));
             }
         }
     }
     lowest
+}
+
+/// A position, and the turns of the fixed loops that hold it.
+type Place = (usize, Turns);
+
+/// Both ways of a branch or a loop's test; where there is one way, it twice.
+fn places_after(plan: &Plan, flow: &Flow, at: usize, mut turns: Turns) -> [Place; 2] {
+    if plan.records[at].kind == FIXED {
+        let next = (turns.next(plan, flow, at), turns);
+        return [next.clone(), next];
+    }
+    [(flow.first(at), turns.clone()), (flow.second(at), turns)]
 }
 
 fn mask(cells: &[usize], range: std::ops::Range<usize>) -> u64 {
@@ -125,8 +140,8 @@ const NO_STOP: u16 = u16::MAX;
 
 /// For each status at entry the possible statuses at exit (one bit each) and
 /// the lowest record at which the cell may stop.
-#[derive(Clone)]
-struct Summary {
+#[derive(Clone, Debug, PartialEq, Eq)]
+pub struct Summary {
     exits: [u16; STATUSES],
     stop: [u16; STATUSES],
 }
@@ -137,8 +152,7 @@ pub fn summary(plan: &Plan) -> Option<Stop> {
     assert!(plan.records.len() < NO_STOP as usize);
     let mut lowest: Option<Stop> = None;
     for cell in told_apart(plan) {
-        let watch = Watch { plan, cell, array: plan.array_of(cell) };
-        let record = watch.block(0, plan.records.len()).stop[START];
+        let record = Summary::of(plan, cell, 0..plan.records.len()).stop[START];
         let record = (record != NO_STOP).then_some(record as usize);
         // Cells ascend, so an equal record keeps the lower cell.
         if let Some(record) = record.filter(|&r| lowest.is_none_or(|known| r < known.record)) {
@@ -190,6 +204,10 @@ impl Watch<'_> {
                     so_far.then(&self.block(r + 1, r + 1 + p).any_turns());
                     r += 1 + p;
                 }
+                FIXED => {
+                    so_far.then(&self.block(r + 1, r + 1 + p).turns(q));
+                    r += 1 + p;
+                }
                 _ => {
                     if self.touched_by(record) {
                         so_far.then_record(r, record);
@@ -232,7 +250,12 @@ fn members(set: u16) -> impl Iterator<Item = usize> {
 }
 
 impl Summary {
-    fn nothing() -> Summary {
+    /// What a part of a plan does to one of its cells.
+    pub fn of(plan: &Plan, cell: usize, part: std::ops::Range<usize>) -> Summary {
+        Watch { plan, cell, array: plan.array_of(cell) }.block(part.start, part.end)
+    }
+
+    pub fn nothing() -> Summary {
         Summary { exits: std::array::from_fn(|entry| 1 << entry), stop: [NO_STOP; STATUSES] }
     }
 
@@ -251,7 +274,7 @@ impl Summary {
         }
     }
 
-    fn then(&mut self, next: &Summary) {
+    pub fn then(&mut self, next: &Summary) {
         for entry in 0..STATUSES {
             let mut exits = 0;
             for status in members(self.exits[entry]) {
@@ -267,6 +290,22 @@ impl Summary {
             exits: std::array::from_fn(|entry| self.exits[entry] | other.exits[entry]),
             stop: std::array::from_fn(|entry| self.stop[entry].min(other.stop[entry])),
         }
+    }
+
+    /// Exactly so many turns, one after the other: the turns that make up the
+    /// count, 1, 2, 4 and so on, each the one before it twice.
+    pub fn turns(&self, count: usize) -> Summary {
+        let mut all = Summary::nothing();
+        let mut some = self.clone();
+        let mut left = count;
+        while left > 0 {
+            if left % 2 == 1 {
+                all.then(&some);
+            }
+            some.then(&some.clone());
+            left /= 2;
+        }
+        all
     }
 
     /// Any number of turns from zero up: the closure of one turn (Warshall).

@@ -120,9 +120,14 @@ impl<'a> Run<'a> {
     fn go(&mut self, choices: &[u8]) -> Result<bool, Breach> {
         let end = self.plan.records.len();
         let flow = self.plan.flow(0..end, end);
+        let mut turns = Turns::default();
         let mut choices = choices.iter();
         let mut at = 0;
         while at < end {
+            if self.plan.records[at].kind == FIXED {
+                at = turns.next(self.plan, &flow, at);
+                continue;
+            }
             if matches!(self.plan.records[at].kind, BRANCH | LOOP) {
                 let Some(&choice) = choices.next() else { return Ok(false) };
                 at = if choice != 0 { flow.first(at) } else { flow.second(at) };
@@ -234,11 +239,13 @@ fn walk(
 ) -> Option<()> {
     let part = plan.bodies[body].steps();
     let flow = plan.flow(part.clone(), part.end);
+    let mut turns = Turns::default();
     let mut at = part.start;
     while at < part.end {
         at = match plan.records[at].kind {
             BRANCH | LOOP if *choices.next()? != 0 => flow.first(at),
             BRANCH | LOOP => flow.second(at),
+            FIXED => turns.next(plan, &flow, at),
             CALL => {
                 reached(plan.records[at].p);
                 walk(plan, plan.records[at].p, choices, reached)?;

@@ -3,7 +3,7 @@
 //! records, and with the arm counts grown to fit."
 
 use super::judge::judged;
-use super::open::{refuse, Refusal};
+use super::open::{refuse, turns_of, Refusal};
 use super::plan::*;
 use super::verdict::Verdict;
 use std::ops::Range;
@@ -25,6 +25,10 @@ fn expanded(file: &[u8], room: usize) -> Result<Vec<u8>, Refusal> {
     let records = size(&plan, 0..plan.bodies[0].count);
     if records > MAX_RECORDS {
         return refuse(16, 0);
+    }
+    // "the expander tests the expansion too, after 16, place the call"
+    if let Some(call) = call_past_turns(&plan, 0..plan.bodies[0].count, 1) {
+        return refuse(26, call);
     }
     if room < HEADER + ARRAY_ENTRY * plan.arrays() + BODY_ENTRY + RECORD * records + TAIL {
         return refuse(17, 0);
@@ -52,6 +56,39 @@ fn pass_size(plan: &Plan, body: usize) -> usize {
     let body = &plan.bodies[body];
     let twice = plan.records[body.first..body.steps().start].iter().filter(|x| x.kind == RW);
     body.count + twice.count()
+}
+
+/// The lowest call in a part of body 0 that `around` turns hold at which the product
+/// of the counts passes 4,096 in the expansion.
+fn call_past_turns(plan: &Plan, part: Range<usize>, around: usize) -> Option<usize> {
+    let mut r = part.start;
+    while r < part.end {
+        let x = &plan.records[r];
+        if x.kind == CALL && around * most_turns(plan, plan.bodies[x.p].steps()) > MAX_TURNS {
+            return Some(r);
+        }
+        let (first, second) = plan.arms(r);
+        let around = around * turns_of(x);
+        r = second.end;
+        let inside = call_past_turns(plan, first, around).or_else(|| call_past_turns(plan, second, around));
+        if inside.is_some() {
+            return inside;
+        }
+    }
+    None
+}
+
+/// The largest product of the counts along a nesting.
+fn most_turns(plan: &Plan, part: Range<usize>) -> usize {
+    let mut most = 1;
+    let mut r = part.start;
+    while r < part.end {
+        let (first, second) = plan.arms(r);
+        let inside = most_turns(plan, first).max(most_turns(plan, second.clone()));
+        most = most.max(turns_of(&plan.records[r]) * inside);
+        r = second.end;
+    }
+    most
 }
 
 /// The expansion held as records, also where it is too large for a file.
@@ -82,9 +119,11 @@ fn script(plan: &Plan, part: Range<usize>, given: &dyn Fn(&Record) -> Vec<Record
         script(plan, first, given, out);
         let middle = out.len();
         script(plan, second, given, out);
-        // A loop has no second arm: its Q stays zero.
+        // Q is the count of a branch's second arm alone: a loop keeps its own.
         out[head].p = middle - head - 1;
-        out[head].q = out.len() - middle;
+        if x.kind == BRANCH {
+            out[head].q = out.len() - middle;
+        }
     }
 }
 

@@ -113,6 +113,12 @@ impl Cells {
         Cells::words(&range).all(|word| Cells::word(&range, word) & !self.0[word] == 0)
     }
 
+    fn add_all(&mut self, other: &Cells) {
+        for (word, other) in self.0.iter_mut().zip(other.0) {
+            *word |= other;
+        }
+    }
+
     fn add_common(&mut self, one: &Cells, two: &Cells) {
         for ((word, one), two) in self.0.iter_mut().zip(one.0).zip(two.0) {
             *word |= one & two;
@@ -121,7 +127,8 @@ impl Cells {
 }
 
 /// The cells written on each side whatever arms are taken and however often
-/// loops turn: a loop may turn zero times, so what it writes does not count.
+/// loops turn: a loop may turn zero times, so what it writes does not count. "A
+/// write inside [a fixed loop] meets a W like one outside."
 fn written_on_every_way(plan: &Plan, part: Range<usize>) -> [Cells; 2] {
     let mut written = [Cells::none(), Cells::none()];
     let mut r = part.start;
@@ -136,6 +143,12 @@ fn written_on_every_way(plan: &Plan, part: Range<usize>) -> [Cells; 2] {
                 let two = written_on_every_way(plan, second);
                 for side in [HOST, CARD] {
                     written[side].add_common(&one[side], &two[side]);
+                }
+            }
+            FIXED => {
+                let turn = written_on_every_way(plan, first);
+                for side in [HOST, CARD] {
+                    written[side].add_all(&turn[side]);
                 }
             }
             _ => {}

@@ -1,4 +1,4 @@
-//! One file a service, each from the words of document 01.
+//! One file a service, each from the words of documents 01 and 02.
 
 pub mod check;
 pub mod demand;

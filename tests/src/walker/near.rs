@@ -27,6 +27,24 @@ pub struct Checker {
     pub highest_cell: bool,
     /// What a loop's arm does to a status is found once and kept for all cells.
     pub keeps_rows: bool,
+    /// What a fixed loop is taken for.
+    pub fixed: Fixed,
+    /// The statuses with which a free loop was entered are kept for its next visit.
+    pub keeps_entries: bool,
+}
+
+/// What a checker takes a fixed loop for.
+#[derive(Clone, Copy, Debug, Default, PartialEq, Eq)]
+pub enum Fixed {
+    /// "The verdict covers the fixed counts exactly".
+    #[default]
+    Exact,
+    /// A free loop: any number of turns from zero up.
+    Free,
+    /// So many turns, whatever the count.
+    Turns(usize),
+    /// Any number of turns from zero up to the count.
+    UpTo,
 }
 
 /// What has been found: the stops, and for a loop's arm and a status the exits.
@@ -34,6 +52,8 @@ pub struct Checker {
 struct Seen {
     stops: BTreeSet<Stop>,
     rows: BTreeMap<(usize, Status), BTreeSet<Status>>,
+    /// For a loop's arm and a cell the statuses at which it was entered.
+    entries: BTreeMap<(usize, usize), BTreeSet<Status>>,
 }
 
 /// Host current, card current, host flag, card flag.
@@ -51,11 +71,7 @@ pub fn stops_all(_: &Plan) -> Option<Stop> {
 
 impl Checker {
     pub fn check(&self, plan: &Plan) -> Option<Stop> {
-        let mut seen = Seen::default();
-        for cell in 0..plan.cells() {
-            self.block(plan, cell, 0..plan.records.len(), BTreeSet::from([START]), &mut seen);
-        }
-        let stops = seen.stops;
+        let stops = self.stops(plan);
         let lowest = *stops.first()?;
         if !self.highest_cell {
             return Some(lowest);
@@ -63,24 +79,18 @@ impl Checker {
         stops.into_iter().filter(|stop| stop.record == lowest.record).max()
     }
 
+    /// All records and cells at which some carried-on run stops.
+    pub fn stops(&self, plan: &Plan) -> BTreeSet<Stop> {
+        let mut seen = Seen::default();
+        for cell in 0..plan.cells() {
+            self.block(plan, cell, 0..plan.records.len(), BTreeSet::from([START]), &mut seen);
+        }
+        seen.stops
+    }
+
     /// The statuses in which a cell can be at the plan's end.
     pub fn exits(&self, plan: &Plan, cell: usize) -> BTreeSet<Status> {
         self.block(plan, cell, 0..plan.records.len(), BTreeSet::from([START]), &mut Seen::default())
-    }
-
-    /// So many turns of a loop's arm from the start, one after the other: the
-    /// statuses in which a cell can be then, and the lowest record that stopped it.
-    pub fn turned(
-        &self,
-        plan: &Plan,
-        cell: usize,
-        arm: Range<usize>,
-        turns: usize,
-    ) -> (BTreeSet<Status>, Option<usize>) {
-        let mut seen = Seen::default();
-        let turn = |now, _| self.block(plan, cell, arm.clone(), now, &mut seen);
-        let now = (0..turns).fold(BTreeSet::from([START]), turn);
-        (now, seen.stops.first().map(|stop| stop.record))
     }
 
     fn block(
@@ -109,6 +119,7 @@ impl Checker {
                 }
                 LOOP if self.keeps_rows => self.turn_by_rows(plan, cell, first, now, seen),
                 LOOP => self.turn(plan, cell, first, now, seen),
+                FIXED => self.turn_fixed(plan, cell, r, now, seen),
                 _ => self.record(plan, cell, r, &now, seen),
             };
             r = after;
@@ -125,6 +136,11 @@ impl Checker {
         seen: &mut Seen,
     ) -> BTreeSet<Status> {
         let mut known = entry;
+        if self.keeps_entries {
+            let entries = seen.entries.entry((arm.start, cell)).or_default();
+            entries.extend(&known);
+            known.clone_from(entries);
+        }
         // 16 statuses: more turns than that add nothing.
         for _ in 0..self.turns.unwrap_or(16) {
             let turned = self.block(plan, cell, arm.clone(), known.clone(), seen);
@@ -136,6 +152,33 @@ impl Checker {
             known = next;
         }
         known
+    }
+
+    fn turn_fixed(
+        &self,
+        plan: &Plan,
+        cell: usize,
+        r: usize,
+        entry: BTreeSet<Status>,
+        seen: &mut Seen,
+    ) -> BTreeSet<Status> {
+        let (arm, _) = plan.arms(r);
+        let turns = match self.fixed {
+            Fixed::Free => return self.turn(plan, cell, arm, entry, seen),
+            Fixed::Turns(turns) => turns,
+            _ => plan.records[r].q,
+        };
+        let mut now = entry;
+        for _ in 0..turns {
+            let turned = self.block(plan, cell, arm.clone(), now.clone(), seen);
+            let next = if self.fixed == Fixed::UpTo { &now | &turned } else { turned };
+            // What a turn leaves as it is, all further turns leave as it is.
+            if next == now {
+                break;
+            }
+            now = next;
+        }
+        now
     }
 
     fn turn_by_rows(
@@ -233,6 +276,7 @@ pub enum Judge {
     Right,
     WriteInOneArmMeetsW,
     WriteInLoopMeetsW,
+    WriteInFixedLoopMeetsNoW,
     ReadUnderWIsDeclared,
     SideNotCompared,
     /// 15 only after the records of all passes.
@@ -306,6 +350,7 @@ impl Judge {
                     }
                 }
                 LOOP => self == Judge::WriteInLoopMeetsW && self.writes(plan, first, side, cell),
+                FIXED => self != Judge::WriteInFixedLoopMeetsNoW && self.writes(plan, first, side, cell),
                 _ => false,
             };
             if here {

@@ -1,4 +1,4 @@
-//! Opening a file: numbers 1 to 10 in the table's order. "Places are tried in
+//! Opening a file: numbers 1 to 10 and 26 in the table's order. "Places are tried in
 //! this order, numbers in the order shown, entries and records ascending; a
 //! record gets all its tests before the next one."
 
@@ -24,7 +24,7 @@ pub fn open(file: &[u8]) -> Result<Plan, Refusal> {
     let records = file[bodies_at(file)..file.len() - TAIL].chunks_exact(RECORD);
     let plan = Plan::new(kind, &lengths, bodies, records.map(Record::from_bytes).collect());
     for body in 0..plan.bodies.len() {
-        Holder { file, plan: &plan, body }.arm(0..plan.bodies[body].count, 0)?;
+        Holder { file, plan: &plan, body }.arm(0..plan.bodies[body].count, 0, 1)?;
     }
     Ok(plan)
 }
@@ -121,22 +121,28 @@ struct Holder<'a> {
 impl Holder<'_> {
     /// Tests the records of an arm (or of the body, at depth 0), positions
     /// counted in the body; `depth` is the number of branches and loops that
-    /// hold it.
-    fn arm(&self, arm: Range<usize>, depth: usize) -> Result<(), Refusal> {
+    /// hold it, `turns` the product of the counts of the fixed ones among them.
+    fn arm(&self, arm: Range<usize>, depth: usize, turns: usize) -> Result<(), Refusal> {
         let mut at = arm.start;
         while at < arm.end {
             let r = self.plan.bodies[self.body].first + at;
             self.fields(r)?;
             self.allowed(r, at)?;
             let (first, second) = self.plan.arms(r);
-            let nests = matches!(self.plan.records[r].kind, BRANCH | LOOP);
+            let nests = matches!(self.plan.records[r].kind, BRANCH | LOOP | FIXED);
             let left = arm.end - at - 1;
             if nests && (first.len() + second.len() > left || depth > self.deepest()) {
                 return refuse(10, r);
             }
+            // "26: along some nesting the product of the counts passes 4,096;
+            // after 10, place the record"
+            let turns = turns * turns_of(&self.plan.records[r]);
+            if turns > MAX_TURNS {
+                return refuse(26, r);
+            }
             let (p, q) = (first.len(), second.len());
-            self.arm(at + 1..at + 1 + p, depth + 1)?;
-            self.arm(at + 1 + p..at + 1 + p + q, depth + 1)?;
+            self.arm(at + 1..at + 1 + p, depth + 1, turns)?;
+            self.arm(at + 1 + p..at + 1 + p + q, depth + 1, turns)?;
             at += 1 + p + q;
         }
         Ok(())
@@ -164,6 +170,8 @@ impl Holder<'_> {
             BRANCH => unnamed,
             LOOP => unnamed && q == 0,
             CALL => unnamed && 1 <= p && p < self.plan.bodies.len() && q == 0,
+            // "P records, Q turns from 1 to 4,096"
+            FIXED => unnamed && (1..=MAX_TURNS).contains(&q),
             _ => return refuse(9, r),
         };
         if fits && zero {
@@ -173,16 +181,16 @@ impl Holder<'_> {
         }
     }
 
-    /// 9: "kind not allowed there".
+    /// 9: "kind not allowed there"; kind 9 "wherever kind 7 may stand".
     fn allowed(&self, r: usize, at: usize) -> Result<(), Refusal> {
         let kind = self.plan.records[r].kind;
         let fits = match self.plan.kind {
-            FileKind::Plain => matches!(kind, READ..=LOOP),
-            FileKind::Declared if self.body == 0 => matches!(kind, BRANCH | LOOP | CALL),
+            FileKind::Plain => matches!(kind, READ..=LOOP | FIXED),
+            FileKind::Declared if self.body == 0 => matches!(kind, BRANCH | LOOP | CALL | FIXED),
             FileKind::Declared if at < self.plan.bodies[self.body].declarations => {
                 matches!(kind, R | W | RW)
             }
-            FileKind::Declared => matches!(kind, READ..=LOOP),
+            FileKind::Declared => matches!(kind, READ..=LOOP | FIXED),
         };
         if fits {
             Ok(())
@@ -192,8 +200,18 @@ impl Holder<'_> {
     }
 }
 
+/// What a record multiplies the turns of what it holds by: a fixed loop by its
+/// count, any other record by 1.
+pub fn turns_of(record: &Record) -> usize {
+    if record.kind == FIXED {
+        record.q
+    } else {
+        1
+    }
+}
+
 /// "the body comes back as the caller's own bytes": where they stand in the
-/// file, or number 1 to 10 or 25.
+/// file, or number 1 to 10, 25 or 26.
 pub fn body_view(file: &[u8], body: u64) -> Result<Range<usize>, u16> {
     let plan = open(file).map_err(|refusal| refusal.number)?;
     let number = usize::try_from(body).map_err(|_| 25u16)?;

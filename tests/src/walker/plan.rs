@@ -15,6 +15,7 @@ pub const MARK: u8 = 5;
 pub const BRANCH: u8 = 6;
 pub const LOOP: u8 = 7;
 pub const CALL: u8 = 8;
+pub const FIXED: u8 = 9;
 pub const R: u8 = 16;
 pub const W: u8 = 17;
 pub const RW: u8 = 18;
@@ -24,6 +25,8 @@ pub const MAX_BODIES: usize = 32;
 pub const MAX_CELLS: usize = 4096;
 pub const MAX_RECORDS: usize = 1024;
 pub const MAX_CHOICES: usize = 65_536;
+/// "Q turns from 1 to 4,096", and the most that a product of counts may be.
+pub const MAX_TURNS: usize = 4096;
 
 /// Bytes of the header, of an array's entry, of a body's entry, of a record,
 /// of the tail.
@@ -156,13 +159,13 @@ impl Plan {
         }
     }
 
-    /// Both arms of a branch at `r`, or the arm of a loop and an empty one;
-    /// two empty ones at any other record.
+    /// Both arms of a branch at `r`, or the arm of a loop (free or fixed) and an
+    /// empty one; two empty ones at any other record.
     pub fn arms(&self, r: usize) -> (Range<usize>, Range<usize>) {
         let record = &self.records[r];
         let (p, q) = match record.kind {
             BRANCH => (record.p, record.q),
-            LOOP => (record.p, 0),
+            LOOP | FIXED => (record.p, 0),
             _ => (0, 0),
         };
         (r + 1..r + 1 + p, r + 1 + p..r + 1 + p + q)
@@ -183,11 +186,12 @@ impl Plan {
             let after = if second.end < part.end { second.end } else { exit };
             flow.next[r - flow.offset] = match self.records[r].kind {
                 BRANCH => (entry(&first, after), entry(&second, after)),
-                LOOP => (entry(&first, r), after),
+                LOOP | FIXED => (entry(&first, r), after),
                 _ => (after, after),
             };
-            // The last record of a loop's arm leads back to the loop's test.
-            let back = if self.records[r].kind == LOOP { r } else { after };
+            // The last record of a loop's arm leads back to the loop's test, or to
+            // the next turn of a fixed one.
+            let back = if matches!(self.records[r].kind, LOOP | FIXED) { r } else { after };
             self.lay(first, back, flow);
             r = second.end;
             self.lay(second, after, flow);
@@ -213,7 +217,8 @@ impl Plan {
     }
 }
 
-/// Where a record leads: after it, at a nonzero choice first, at a zero choice second.
+/// Where a record leads: after it, at a nonzero choice first, at a zero choice second;
+/// at a fixed loop into its next turn first, behind it second.
 #[derive(Clone, Debug)]
 pub struct Flow {
     offset: usize,
@@ -227,6 +232,30 @@ impl Flow {
 
     pub fn second(&self, r: usize) -> usize {
         self.next[r - self.offset].1
+    }
+}
+
+/// The fixed loops that hold a position, outermost first: the record of each, and
+/// how many of its turns are still to come after the one under way.
+#[derive(Clone, Debug, Default, PartialEq, Eq, Hash)]
+pub struct Turns(Vec<(usize, usize)>);
+
+impl Turns {
+    /// Where the fixed loop at `r` leads now: "Q turns", at each visit anew,
+    /// "taking no choice".
+    pub fn next(&mut self, plan: &Plan, flow: &Flow, r: usize) -> usize {
+        let left = match self.0.pop() {
+            Some((held_by, left)) if held_by == r => left,
+            outside => {
+                self.0.extend(outside);
+                plan.records[r].q
+            }
+        };
+        if left == 0 {
+            return flow.second(r);
+        }
+        self.0.push((r, left - 1));
+        flow.first(r)
     }
 }
 

@@ -24,7 +24,7 @@ pub struct Memories<'a> {
 
 #[derive(Clone, Copy, Debug, PartialEq, Eq)]
 pub enum RunEnd {
-    /// 1 to 11, 19, 20: nothing is changed.
+    /// 1 to 11, 19, 20, 26: nothing is changed.
     Refused {
         number: u16,
         place: usize,
@@ -78,10 +78,15 @@ pub fn run_plan(plan: &Plan, memories: &mut Memories, choices: &[u8], tally: &mu
     let end = plan.records.len();
     let flow = plan.flow(0..end, end);
     let mut machine = Machine::start(plan, memories, tally);
+    let mut turns = Turns::default();
     let mut used = 0;
     let mut at = 0;
     while at < end {
         let record = &plan.records[at];
+        if record.kind == FIXED {
+            at = turns.next(plan, &flow, at);
+            continue;
+        }
         if matches!(record.kind, BRANCH | LOOP) {
             // "Each branch and each test of a loop takes one, nonzero meaning
             // first arm or one more turn."

@@ -118,7 +118,7 @@ fn summary_agrees_cell_by_cell_on_large_plans() {
 }
 
 /// A carried-on run with its stamps, on one list of choices: all its stops.
-fn carried_on(plan: &Plan, choices: &[u8]) -> Vec<Stop> {
+pub fn carried_on(plan: &Plan, choices: &[u8]) -> Vec<Stop> {
     let end = plan.records.len();
     let flow = plan.flow(0..end, end);
     let cells = plan.cells();

@@ -1,6 +1,7 @@
-//! The walker against document 01's own examples, and against itself.
+//! The walker against document 01's own examples, and against itself. Fixed loops
+//! are in a file of their own.
 
-mod check;
+pub mod check;
 mod demand;
 mod expand;
 mod judge;

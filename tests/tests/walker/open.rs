@@ -1,4 +1,4 @@
-//! Opening: numbers 1 to 10 and the body view.
+//! Opening: numbers 1 to 10 and 26, and the body view.
 
 use super::*;
 use cuplihang_tests::walker::{FileKind, Refusal};
@@ -89,9 +89,21 @@ fn records_by_hand() {
     // A declaration in a plain plan: 8 with a bad field, else 9.
     assert_eq!(number(raw(16, 0, 1, 0, 0)), refused(9));
     assert_eq!(number(raw(16, 0, 2, 0, 0)), refused(8));
-    for kind in [0, 9, 15, 19, 255] {
+    for kind in [0, 10, 15, 19, 255] {
         assert_eq!(number([kind, 9, 9, 9, 9, 9, 9, 9]), refused(9));
     }
+    // A fixed loop: "P records, Q turns from 1 to 4,096".
+    assert_eq!(number(raw(9, 0, 0, 0, 1)), (0, 0));
+    assert_eq!(number(raw(9, 0, 0, 0, 4096)), (0, 0));
+    assert_eq!(number(raw(9, 0, 0, 0, 0)), refused(8));
+    assert_eq!(number(raw(9, 0, 0, 0, 4097)), refused(8));
+    assert_eq!(number(raw(9, 0, 0, 0, 65535)), refused(8));
+    assert_eq!(number(raw(9, 1, 0, 0, 1)), refused(8));
+    assert_eq!(number(raw(9, 0, 1, 0, 1)), refused(8));
+    assert_eq!(number([9, 0, 0, 1, 0, 0, 1, 0]), refused(8));
+    assert_eq!(number(raw(9, 0, 0, 1, 1)), refused(10));
+    assert_eq!(number(raw(9, 0, 0, 65535, 4096)), refused(10));
+    assert_eq!(number([9, 9, 9, 9, 9, 9, 9, 9]), refused(8));
 }
 
 /// 15 and 7 others at most, an arm never past its holder.

@@ -28,9 +28,9 @@ pub record Rooms (from to : ℕ) (own others latest : List ℕ) : Type 0 where
 
 -- the tally leaves room for one record more
 pub record Low (s : Stored) : Type 0 where
-  pub reads : s .reads < 4294967296
-  pub writes : s .writes < 4294967296
-  pub moved : s .moved < 17592186044416
+  pub reads : s .reads < 17592186044416
+  pub writes : s .writes < 17592186044416
+  pub moved : s .moved < 72057594037927936
 
 -- a record with this verb on this side, of the cells that x names
 abbrev pub with-verb : Verb → Side → Action → Action

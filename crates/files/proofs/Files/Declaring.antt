@@ -4,23 +4,23 @@ use mathlib.Core.Bool.{true, false, cond, _&&_}
 use mathlib.Core.List.{List, [], _∷_, map}
 use Prim.Native.Nat.{ℕ, suc, _+_, _≤_, _<_}
 use native.Mathlib.Omega.{arith}
-use native.Mathlib.Nat.{add-zero}
+use native.Mathlib.Nat.{add-zero, one-mul}
 use lib.ListN.{length, length-append, length-map}
 use lib.Dec.{ltb, leb, eqb}
-use borrow.Author.Tests.{lt-ltb, le-ltb, ne-eqb}
+use borrow.Author.Tests.{lt-ltb, le-ltb, leb-true, ne-eqb}
 use Rattle.model.specs.Lists.{sum}
 use Rattle.model.specs.Sides.{Side, side-number, Layout}
-use Rattle.model.specs.Blocks.{size, numbered}
+use Rattle.model.specs.Blocks.{size, largest, numbered}
 use Rattle.model.specs.Judging.{Mode, R, W, RW, Declaration, Pass}
 use Rattle.model.proofs.Booleans.{and-out}
 use Rattle.reading.specs.declared.Fields.{Fields}
-use Rattle.reading.specs.Bytes.{kind-of, array-count, table, records-in, declarations-in, first-record, fields-at, between, first-arm, second-arm}
+use Rattle.reading.specs.Bytes.{kind-of, array-count, table, records-in, declarations-in, first-record, fields-at, between, nests}
 use Rattle.rules.specs.Rules.{fields-fit, allowed, deepest}
 use Rattle.records.specs.Records.{body-rows}
 use Rattle.format.specs.Plans.{declaration-of, pass-at}
 use Rattle.files.specs.Files.{fields}
 use Rattle.files.specs.Inner.Short.{block-fields, block-fits, passes-size}
-use Rattle.files.specs.Bounds.{all-pass, pass-fits, pass-size, numbered-passes, mode-kind, declaration-fields, pass-body}
+use Rattle.files.specs.Bounds.{all-pass, products-fit, pass-fits, pass-size, numbered-passes, mode-kind, declaration-fields, pass-body}
 use Rattle.files.proofs.Files.Holding.{Along, none, more, Holds, front-part, back-at, each-so, along-unmap, from-place, table-is}
 use Rattle.files.proofs.Files.Places.{body-size, sizes, Arrayed, Placed}
 use Rattle.files.proofs.Files.Accepting.{Passes, EntryFits}
@@ -33,11 +33,10 @@ declaration-kind R = refl
 declaration-kind W = refl
 declaration-kind RW = refl
 
-declaration-arms : (m : Mode) (s a : ℕ) → (first-arm (fields (mode-kind m) s a 0 0) ≡ 0) × (second-arm (fields (mode-kind m) s a 0 0) ≡ 0) × (between 6 7 (mode-kind m) ≡ false)
-unfolding first-arm second-arm
-declaration-arms R s a = (refl, refl, refl)
-declaration-arms W s a = (refl, refl, refl)
-declaration-arms RW s a = (refl, refl, refl)
+declaration-leaf : (m : Mode) (s a : ℕ) → nests (fields (mode-kind m) s a 0 0) ≡ false
+declaration-leaf R s a = refl
+declaration-leaf W s a = refl
+declaration-leaf RW s a = refl
 
 declaration-fit : (f : List ℕ) (m : Mode) (s : Side) (a : ℕ) → ltb a (array-count f) ≡ true → fields-fit f (fields (mode-kind m) (side-number s) a 0 0) ≡ true
 unfolding fields-fit
@@ -57,14 +56,13 @@ declaration-back d = rw (mode-back (d .mode), side-back (d .side))
 -- the declarations in front of a pass's other records
 declarations-walk : (f : List ℕ) (b end : ℕ) (ds : List Declaration) (r : ℕ) → all-pass (λ (d : Declaration). ltb (d .array) (array-count f)) ds ≡ true
     → ((s : ℕ) (x : Fields) → s < r + length ds → between 16 18 (x .kind) ≡ true → allowed f b s x ≡ true) → r + length ds ≤ end
-    → Holds (fields-at f) r (map declaration-fields ds) → Walks f b 0 (r + length ds) end → Walks f b 0 r end
+    → Holds (fields-at f) r (map declaration-fields ds) → Walks f b 0 1 (r + length ds) end → Walks f b 0 1 r end
 declarations-walk f b end [] r e may inside h rest = rw add-zero at rest
 declarations-walk f b end (d ∷ ds) r e may inside (more x-is h) rest =
     let fit = and-out (ltb (d .array) (array-count f)) (all-pass (λ (c : Declaration). ltb (c .array) (array-count f)) ds) e in
     let next : suc r + length ds ≡ r + suc (length ds) = omega arith in
-    let arms = declaration-arms (d .mode) (side-number (d .side)) (d .array) in
-    at-plain f b 0 r end (declaration-fields d) x-is (declaration-fit f (d .mode) (d .side) (d .array) (fit .0))
-    (may r (declaration-fields d) (omega arith) (declaration-kind (d .mode))) (arms .0) (arms .1) (arms .2) (omega arith)
+    at-plain f b 0 1 r end (declaration-fields d) x-is (declaration-fit f (d .mode) (d .side) (d .array) (fit .0))
+    (may r (declaration-fields d) (omega arith) (declaration-kind (d .mode))) (declaration-leaf (d .mode) (side-number (d .side)) (d .array)) (omega arith) (omega arith)
     (declarations-walk f b end ds (suc r) (fit .1) (rw next may) (omega arith) h (rw next rest))
 
 pub pass-count : (p : Pass) → body-size (pass-body p) ≡ pass-size p
@@ -92,8 +90,10 @@ module _ (f : List ℕ) (b : ℕ) (p : Pass) (placed : Placed f b (pass-body p))
       → pass-fits layout p ≡ true → Passes (body-rows f b)
   unfolding body-rows allowed deepest
   pass-walks layout kind-is later arrayed fits =
-      let fit = and-out (leb declared 255) (all-pass (λ (d : Declaration). ltb (d .array) (length (layout .lengths))) (p .declarations) && block-fits layout 8 (p .body)) fits .1 in
-      let fit′ = and-out (all-pass (λ (d : Declaration). ltb (d .array) (length (layout .lengths))) (p .declarations)) (block-fits layout 8 (p .body)) fit in
+      let fit = and-out (leb declared 255) (all-pass (λ (d : Declaration). ltb (d .array) (length (layout .lengths))) (p .declarations) && (block-fits layout 8 (p .body) && products-fit (p .body))) fits .1 in
+      let fit′ = and-out (all-pass (λ (d : Declaration). ltb (d .array) (length (layout .lengths))) (p .declarations)) (block-fits layout 8 (p .body) && products-fit (p .body)) fit in
+      let (block-in, products) = and-out (block-fits layout 8 (p .body)) (products-fit (p .body)) (fit′ .1) in
+      let few : largest (p .body) ≤ 4096 = leb-true _ _ products in
       let declarations-are : declarations-in f b ≡ declared = placed .entry .declarations-are in
       let end : first-record f (suc b) ≡ r + declared + size (p .body) = omega (arith, placed .next, pass-count p) in
       let deep : deepest f ≡ 7 = rw kind-is in
@@ -101,7 +101,7 @@ module _ (f : List ℕ) (b : ℕ) (p : Pass) (placed : Placed f b (pass-body p))
       (declarations-walk f b (r + declared + size (p .body)) (p .declarations) r (rw (arrayed .counted) (fit′ .0))
       (λ s x k e. rw (kind-is, later, declarations-are, lt-ltb s (r + declared) k, e)) (omega arith) declarations-held
       (block-walks f b (r + declared) layout arrayed (λ s x k e. rw (kind-is, later, declarations-are, le-ltb s (r + declared) k, e))
-      (p .body) 8 0 (r + declared) (fit′ .1) (omega arith) (omega arith) block-held) (records-in f b))
+      (p .body) 8 0 1 (r + declared) block-in (omega arith) (omega arith) (rw one-mul few) (omega arith) block-held) (records-in f b))
 
   declarations-read : table (λ i. declaration-of (fields-at f (r + i))) declared ≡ p .declarations
   declarations-read =

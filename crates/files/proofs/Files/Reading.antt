@@ -1,24 +1,24 @@
 -- Reading back: the records of a block read as that block, numbered from its first record on.
 use mathlib.Core.Path.{_≡_, refl, _∙_}
 use mathlib.Core.Bool.{false}
-use Prim.Native.Nat.{ℕ, zero, suc, _+_, _≤_, _<_}
+use Prim.Native.Nat.{ℕ, zero, suc, _+_, _-_, _≤_, _<_}
 use native.Mathlib.Omega.{arith}
 use native.Mathlib.Numerals.{add-one}
 use native.Mathlib.Nat.{add-zero}
-use lib.Dec.{eqb}
-use borrow.Author.Tests.{lt-ltb, le-ltb}
+use borrow.Author.Tests.{lt-ltb, le-ltb, ne-eqb}
 use Rattle.model.specs.Sides.{Side, host, card, side-number}
 use Rattle.model.specs.Records.{Verb, read, write, copy, need, mark, kind, Action}
 use Rattle.model.specs.Blocks.{Block, size, numbered}
 use Rattle.reading.specs.declared.Fields.{Fields}
-use Rattle.reading.specs.Bytes.{first-arm, second-arm}
+use Rattle.reading.specs.Bytes.{nests, first-arm, second-arm}
 use Rattle.format.specs.Plans.{side-of, verb-of, action-of, block-of}
 use Rattle.format.specs.Inner.Walks.{call-of}
+use Rattle.format.proofs.Trees.{not-nesting, no-arms}
 use Rattle.files.specs.Files.{fields, action-fields, fields-of}
 use Rattle.files.specs.Bounds.{call-fields}
 use Rattle.files.specs.Inner.Short.{block-fields}
 use Rattle.files.proofs.Files.Holding.{more, Holds, front-part, back-at}
-use Rattle.files.proofs.Files.Records.{no-arms, count-of}
+use Rattle.files.proofs.Files.Records.{action-leaf, count-of}
 
 pub side-back : (s : Side) → side-of (side-number s) ≡ s
 side-back host = refl
@@ -35,17 +35,9 @@ action-back : (x : Action) → action-of (action-fields x) ≡ x
 unfolding action-of
 action-back x = rw (verb-back (x .verb), side-back (x .side))
 
--- an action is neither a branch nor a loop
-no-holder : (v : Verb) → (eqb (kind v) 6 ≡ false) × (eqb (kind v) 7 ≡ false)
-no-holder read = (refl, refl)
-no-holder write = (refl, refl)
-no-holder copy = (refl, refl)
-no-holder need = (refl, refl)
-no-holder mark = (refl, refl)
-
 -- leaves that read back, and are neither branch nor loop
 module _ {A : Type 0} (fields-in : A → Fields) (leaf : Fields → A) (back : (x : A) → leaf (fields-in x) ≡ x)
-    (plain : (x : A) → (eqb (fields-in x .kind) 6 ≡ false) × (eqb (fields-in x .kind) 7 ≡ false) × (first-arm (fields-in x) ≡ 0) × (second-arm (fields-in x) ≡ 0)) (g : ℕ → Fields) where
+    (plain : (x : A) → nests (fields-in x) ≡ false) (g : ℕ → Fields) where
   reads-none : (fuel r end : ℕ) → end ≤ r → block-of leaf fuel g r end ≡ Block.done
   unfolding block-of
   reads-none zero r end h = refl
@@ -56,7 +48,9 @@ module _ {A : Type 0} (fields-in : A → Fields) (leaf : Fields → A) (back : (
     unfolding block-of
     reads-act x e =
         let next : suc r + 0 + 0 ≡ suc r = omega arith in
-        rw (lt-ltb r end h, e, plain x .0, plain x .1, plain x .2, plain x .3, add-one r, next, back x)
+        let kind = not-nesting (fields-in x) (plain x) in
+        let arms = no-arms (fields-in x) (plain x) in
+        rw (lt-ltb r end h, e, ne-eqb (fields-in x .kind) 6 (kind .0), ne-eqb (fields-in x .kind) 7 (kind .1), ne-eqb (fields-in x .kind) 9 (kind .2), arms .0, arms .1, add-one r, next, back x)
 
     reads-branch : (n m : ℕ) → g r ≡ fields 6 0 0 n m
         → block-of leaf (suc fuel) g r end ≡ Block.branch r (block-of leaf fuel g (suc r) (suc r + n)) (block-of leaf fuel g (suc r + n) (suc r + n + m)) (block-of leaf fuel g (suc r + n + m) end)
@@ -66,6 +60,10 @@ module _ {A : Type 0} (fields-in : A → Fields) (leaf : Fields → A) (back : (
     reads-loop : (n : ℕ) → g r ≡ fields 7 0 0 n 0 → block-of leaf (suc fuel) g r end ≡ Block.loop r (block-of leaf fuel g (suc r) (suc r + n)) (block-of leaf fuel g (suc r + n) end)
     unfolding block-of first-arm second-arm
     reads-loop n e = rw (lt-ltb r end h, e, add-one r, add-zero)
+
+    reads-fixed : (n m : ℕ) → g r ≡ fields 9 0 0 n (suc m) → block-of leaf (suc fuel) g r end ≡ Block.fixed r m (block-of leaf fuel g (suc r) (suc r + n)) (block-of leaf fuel g (suc r + n) end)
+    unfolding block-of first-arm second-arm
+    reads-fixed n m e = let before : suc m - 1 ≡ m = omega arith in rw (lt-ltb r end h, e, add-one r, add-zero, before)
 
   pub reads-of : (x : Block A) (fuel r : ℕ) → size x ≤ fuel → Holds g r (fields-of fields-in x) → block-of leaf fuel g r (r + size x) ≡ numbered r x
   reads-of Block.done fuel r k h = reads-none fuel r (r + 0) (omega arith)
@@ -93,10 +91,18 @@ module _ {A : Type 0} (fields-in : A → Fields) (leaf : Fields → A) (back : (
         reads-of x fuel (suc r) (omega arith) (front-part (fields-of fields-in x) _ h),
         reads-of t fuel (suc r + size x) (omega arith) (back-at (fields-of fields-in x) (size x) (count-of fields-in x) h),
       )
+  reads-of (Block.fixed _ n x t) zero r k h = absurd (omega arith)
+  reads-of (Block.fixed _ n x t) (suc fuel) r k (more e h) =
+      let end : suc r + size x + size t ≡ r + suc (size x + size t) = omega arith in
+      reads-fixed fuel r (r + suc (size x + size t)) (omega arith) (size x) n e
+      ∙ rw (
+        ← end,
+        reads-of x fuel (suc r) (omega arith) (front-part (fields-of fields-in x) _ h),
+        reads-of t fuel (suc r + size x) (omega arith) (back-at (fields-of fields-in x) (size x) (count-of fields-in x) h),
+      )
 
 pub block-reads : (g : ℕ → Fields) (x : Block Action) (fuel r : ℕ) → size x ≤ fuel → Holds g r (block-fields x) → block-of action-of fuel g r (r + size x) ≡ numbered r x
-block-reads = reads-of action-fields action-of action-back (λ x. (no-holder (x .verb) .0, no-holder (x .verb) .1, no-arms x .0, no-arms x .1))
+block-reads = reads-of action-fields action-of action-back action-leaf
 
 pub body0-reads : (g : ℕ → Fields) (x : Block ℕ) (fuel r : ℕ) → size x ≤ fuel → Holds g r (fields-of call-fields x) → block-of call-of fuel g r (r + size x) ≡ numbered r x
-unfolding first-arm second-arm
-body0-reads = reads-of call-fields call-of (λ b. refl) (λ b. (refl, refl, refl, refl))
+body0-reads = reads-of call-fields call-of (λ b. refl) (λ b. refl)

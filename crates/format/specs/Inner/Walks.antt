@@ -25,17 +25,18 @@ pub record Plain (f : List ℕ) (bodies : ℕ) : Type 0 where
 pub record Starts (f : List ℕ) (starts : List ℕ) : Type 0 where
   pub first : (a : ℕ) → a ≤ array-count f → getD starts a 0 ≡ span-of (layout-of f) a .first
 
--- the records r up to `end` of body b, inside `depth` branches and loops, all pass their tests
-pub record Good (f : List ℕ) (b depth r end : ℕ) : Type 0 where
+-- the records r up to `end` of body b, inside `depth` branches and loops whose counts have the product `around`, all pass their tests
+pub record Good (f : List ℕ) (b depth around r end : ℕ) : Type 0 where
   pub fuel : ℕ
   pub enough : end ≤ r + fuel
-  pub passes : Accepted ≡ answer-of (block-rows fuel f b depth r end)
+  pub passes : Accepted ≡ answer-of (block-rows fuel f b depth around r end)
 
--- the same, whatever their body and their depth
+-- the same, whatever their body, their depth and that product
 pub record Walkable (f : List ℕ) (r end : ℕ) : Type 0 where
   pub body : ℕ
   pub depth : ℕ
-  pub good : Good f body depth r end
+  pub around : ℕ
+  pub good : Good f body depth around r end
 
 -- the block of the records r up to `end`, of actions and of calls
 unfoldable pub block-between : List ℕ → ℕ → ℕ → Block Action

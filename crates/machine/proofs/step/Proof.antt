@@ -11,7 +11,7 @@ use Rattle.memories.proofs.Cells.{same-all, same-more}
 use Rattle.standing.specs.Inner.Standing.{runner, stored-with}
 use Rattle.reading.specs.Inner.Cells.{from-of, to-of}
 use Rattle.machine.proofs.Records.{on-array}
-use Rattle.machine.proofs.Steps.{fits-inside, record-fits, kind-is, not-deep, Able, at-end, at-test, able, at-record, ensured}
+use Rattle.machine.proofs.Steps.{fits-inside, record-fits, kind-is, not-deep, turns-left, Able, at-end, at-lead, able, at-record, ensured}
 use borrow.Author.Needs.{needs}
 use Rattle.machine.proofs.step.Statement.{statement}
 use Rattle.machine.proofs.step.Tie as tie
@@ -24,7 +24,7 @@ use Rattle.reading.proofs.first_cell.Reads as first-cell-reads
 use Rattle.reading.proofs.next_cell.Reads as next-cell-reads
 use Rattle.known.proofs.is_whole.Reads as is-whole-reads
 use Rattle.standing.proofs.over.Reads as over-reads
-use Rattle.standing.proofs.test.Reads as test-reads
+use Rattle.standing.proofs.lead.Reads as lead-reads
 
 -- the place is before the end of its arm
 before-end : (c : tie.Else1) → c .before .before .before .before .before .before .before .before .before .args .m .place .at < c .before .before .before .before .before .before .before .before .before .args .m .place .end
@@ -67,14 +67,14 @@ record-at-requires c κs =
     let h = before-end (c) in
     (w .plain .place, record-inside _ _ (w .plain) _ (omega (arith, h, w .placed .here .inside)))
 
-test-requires : tie.Need-test-requires
-test-requires c κs =
+lead-requires : tie.Need-lead-requires
+lead-requires c κs =
     let w = c .before .before .before .before .before .before .before .before .before .before .before .before .before .pre .1 .stands in
     let x = c .before .before .before .record-at in
     let h = before-end (c .before .before .before .before) in
     let part = w .placed .here in
     let n = fits-inside _ _ (w .plain) _ _ _ part h _ (x .ensures) in
-    (not-deep _ _ (w .plain) _ _ _ part h _ (x .ensures) (c .before .if2 .taken), w .used, w .many, w .placed .size, omega (arith, part .inside, opened-facts _ (w .plain .opens) .bounds .records), omega (arith, n, part .inside, opened-facts _ (w .plain .opens) .bounds .records))
+    (not-deep _ _ (w .plain) _ _ _ part h _ (x .ensures) (c .before .if2 .taken), w .used, w .many, w .placed .size, omega (arith, part .inside, opened-facts _ (w .plain .opens) .bounds .records), omega (arith, n, part .inside, opened-facts _ (w .plain .opens) .bounds .records), turns-left _ _ (w .plain) _ _ _ part h _ (x .ensures) (c .before .before .before .before .before .before .before .before .before .before .before .before .before .args .room .now) (w .placed .begun))
 
 same-length : tie.Need-same-length
 same-length c = search needs
@@ -82,7 +82,7 @@ same-length c = search needs
 returns-2 : tie.Need-returns-2
 returns-2 c =
     let a = c .before .before .before .before .before .before .before .before .before .before .before .before .before .before .before .before in
-    ensured _ _ _ _ _ _ _ _ _ _ _ _ _ (a .pre .1) (λ k w. at-test _ _ _ _ _ _ _ (a .pre .0) k w (before-end (c .before .before .before .before .before .before .before)) _ (c .before .before .before .before .before .before .record-at .ensures) (c .before .before .before .before .if2 .taken) _ (c .before .before .test .ensures)) (same-all _ _) (same-all _ _) (same-all _ _)
+    ensured _ _ _ _ _ _ _ _ _ _ _ _ _ (a .pre .1) (λ k w. at-lead _ _ _ _ _ _ _ (a .pre .0) k w (before-end (c .before .before .before .before .before .before .before)) _ (c .before .before .before .before .before .before .record-at .ensures) (c .before .before .before .before .if2 .taken) _ (c .before .before .lead .ensures)) (same-all _ _) (same-all _ _) (same-all _ _)
 
 cast-a : tie.Need-cast-a
 cast-a c = search needs
@@ -166,7 +166,7 @@ step-spec =
     over-requires
     returns
     record-at-requires
-    test-requires
+    lead-requires
     same-length
     returns-2
     cast-a

@@ -106,7 +106,7 @@ module _ {M : Type 1} (𝓤 : URA M) (H : Heap 𝓤) (A : Atoms 𝓤) (W : Given
 
   -- what the callee says, at the lists that it leaves
   abbrev Said : List ℕ → List ℕ → List ℕ → List ℕ → Stepped → Type 0
-  Said host₁ card₁ latest₁ room₁ r = Steps (plan .now) (choices .now) (runner m (room .now)) (host .now) (card .now) (latest .now) (t .now) (runner (r .machine) room₁) host₁ card₁ latest₁ (r .tally) × (left (length (choices .now)) (runner (r .machine) room₁) < left (length (choices .now)) (runner m (room .now))) × Same (cell-count (layout-of (plan .now))) (host .now) host₁ × Same (cell-count (layout-of (plan .now))) (card .now) card₁ × Same (cell-count (layout-of (plan .now))) (latest .now) latest₁
+  Said host₁ card₁ latest₁ room₁ r = Steps (plan .now) (choices .now) (runner m (room .now)) (host .now) (card .now) (latest .now) (t .now) (runner (r .machine) room₁) host₁ card₁ latest₁ (r .tally) × (left (plan .now) (length (choices .now)) (runner (r .machine) room₁) < left (plan .now) (length (choices .now)) (runner m (room .now))) × Same (cell-count (layout-of (plan .now))) (host .now) host₁ × Same (cell-count (layout-of (plan .now))) (card .now) card₁ × Same (cell-count (layout-of (plan .now))) (latest .now) latest₁
 
   abbrev Tokens : Item 𝓤
   Tokens = ‵ (flft κ₀ q₀) ⊛ ‵ (flft κ₁ q₁) ⊛ ‵ (flft κ₂ q₂) ⊛ ‵ (flft κ₃ q₃) ⊛ ‵ (flft κ₄ q₄) ⊛ ‵ (flft κ₅ q₅) ⊛ ‵ ftrue

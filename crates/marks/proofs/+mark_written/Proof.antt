@@ -9,7 +9,7 @@ use Rattle.format.specs.Inner.Walks.{Walkable}
 use Rattle.format.proofs.Acts.{Arms}
 use Rattle.marks.specs.Inner.Marks.{Adds, always}
 use Rattle.marks.proofs.Marks.{length-none, none-marked}
-use Rattle.marks.proofs.Walks.{RecordAt, arms-of, write-fits, adds-none, adds-branch, adds-other}
+use Rattle.marks.proofs.Walks.{RecordAt, arms-of, write-fits, adds-none, adds-branch, adds-fixed, adds-other}
 use borrow.Author.Needs.{needs}
 use Prim.Native.Nat.{ℕ, _-_, _≤_, _<_}
 use borrow.Fn.Kinds.{In}
@@ -102,8 +102,14 @@ mark-written-mark-written-requires-2 t c κs = let a = arms t (c .before .before
 mark-written-mark-both-requires : (t : ℕ) → mark-written-lts.Need-mark-both-requires (calls t) (mark-written-at t) mark-written.Post mark-written-Inv-loop mark-written-μ-loop
 mark-written-mark-both-requires t c κs = c .before .before .before .before .before .before .before .before .before .before .before .before .before .loop .inv .2
 
+mark-written-add-mark-written-2 : (t : ℕ) → mark-written-lts.Need-add-mark-written-2 (calls t) (mark-written-at t) mark-written.Post mark-written-Inv-loop mark-written-μ-loop
+mark-written-add-mark-written-2 t c = search needs
+
+mark-written-mark-written-requires-3 : (t : ℕ) → mark-written-lts.Need-mark-written-requires-3 (calls t) (mark-written-at t) mark-written.Post mark-written-Inv-loop mark-written-μ-loop
+mark-written-mark-written-requires-3 t c κs = let a = arms t (c .before .before .before .before .before) in let p = c .before .before .before .before .before .before .before .before .before .before .before .pre .1 .4 in (omega arith, (c .before .before .before .before .before .before .before .before .before .loop .inv .2, c .before .before .before .before .before .before .before .before .before .before .before .pre .1 .1, omega arith, omega arith, record { place = p .place; room = omega arith }, a .one))
+
 mark-written-mark-record-requires : (t : ℕ) → mark-written-lts.Need-mark-record-requires (calls t) (mark-written-at t) mark-written.Post mark-written-Inv-loop mark-written-μ-loop
-mark-written-mark-record-requires t c κs = (c .before .before .before .before .before .before .before .loop .inv .2, (λ k. write-fits _ _ _ (c .before .before .before .before .before .before .before .before .before .pre .1 .1) _ _ _ _ _ (here t (c .before .before .before)) k))
+mark-written-mark-record-requires t c κs = (c .before .before .before .before .before .before .before .before .before .loop .inv .2, (λ k. write-fits _ _ _ (c .before .before .before .before .before .before .before .before .before .before .before .pre .1 .1) _ _ _ _ _ (here t (c .before .before .before .before .before)) k))
 
 mark-written-loop-less : (t : ℕ) → mark-written-lts.Need-loop-less (calls t) (mark-written-at t) mark-written.Post mark-written-Inv-loop mark-written-μ-loop
 mark-written-loop-less t c = search needs
@@ -118,8 +124,16 @@ mark-written-loop-less-2 t c = search needs
 
 mark-written-loop-again-2 : (t : ℕ) → mark-written-lts.Need-loop-again-2 (calls t) (mark-written-at t) mark-written.Post mark-written-Inv-loop mark-written-μ-loop
 mark-written-loop-again-2 t c =
-    let a = arms t (c .before .before .before .before) in
-    (omega arith, a .inside, c .mark-record .ensures .size, a .rest, (λ l k. c .before .before .before .before .before .before .before .before .loop .inv .4 l (adds-other _ _ _ (c .before .before .before .before .before .before .before .before .before .before .pre .1 .1) _ _ _ _ _ (here t (c .before .before .before .before)) _ _ l k (c .before .before .if1 .left) (c .mark-record .ensures))))
+    let a = arms t (c .before .before .before .before .before .before) in
+    (omega arith, a .inside, c .mark-written3 .ensures .size, a .rest, (λ l k. c .before .before .before .before .before .before .before .before .before .before .loop .inv .4 l (adds-fixed _ _ _ (c .before .before .before .before .before .before .before .before .before .before .before .before .pre .1 .1) _ _ _ _ _ (here t (c .before .before .before .before .before .before)) _ _ l k (c .before .before .if2 .taken) (c .mark-written3 .ensures))))
+
+mark-written-loop-less-3 : (t : ℕ) → mark-written-lts.Need-loop-less-3 (calls t) (mark-written-at t) mark-written.Post mark-written-Inv-loop mark-written-μ-loop
+mark-written-loop-less-3 t c = search needs
+
+mark-written-loop-again-3 : (t : ℕ) → mark-written-lts.Need-loop-again-3 (calls t) (mark-written-at t) mark-written.Post mark-written-Inv-loop mark-written-μ-loop
+mark-written-loop-again-3 t c =
+    let a = arms t (c .before .before .before .before .before .before) in
+    (omega arith, a .inside, c .mark-record .ensures .size, a .rest, (λ l k. c .before .before .before .before .before .before .before .before .before .before .loop .inv .4 l (adds-other _ _ _ (c .before .before .before .before .before .before .before .before .before .before .before .before .pre .1 .1) _ _ _ _ _ (here t (c .before .before .before .before .before .before)) _ _ l k (c .before .before .before .before .if1 .left) (c .before .before .if2 .left) (c .mark-record .ensures))))
 
 mark-written-returns : (t : ℕ) → mark-written-lts.Need-returns (calls t) (mark-written-at t) mark-written.Post mark-written-Inv-loop mark-written-μ-loop
 mark-written-returns t c = c .before .loop .inv .4 _ (adds-none _ _ _ (c .before .before .before .pre .1 .1) _ _ (c .loop-test .left) _ (c .before .loop .inv .2))
@@ -141,9 +155,13 @@ pub +mark-written-spec : {M : Type 1} → statement M
     (mark-written-mark-written-requires t)
     (mark-written-mark-written-requires-2 t)
     (mark-written-mark-both-requires t)
+    (mark-written-add-mark-written-2 t)
+    (mark-written-mark-written-requires-3 t)
     (mark-written-mark-record-requires t)
     (mark-written-loop-less t)
     (mark-written-loop-again t)
     (mark-written-loop-less-2 t)
     (mark-written-loop-again-2 t)
+    (mark-written-loop-less-3 t)
+    (mark-written-loop-again-3 t)
     (mark-written-returns t)

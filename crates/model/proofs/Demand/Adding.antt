@@ -13,7 +13,7 @@ use Rattle.model.specs.Judging.{Declaration, DeclaredPlan, permits, Acce
 use Rattle.model.proofs.Runs.{event}
 use Rattle.model.proofs.Stamps.{as-verb}
 use Rattle.model.proofs.Demand.Declarations.{barred}
-use Rattle.model.proofs.Demand.Stages.{Stage, Progress, Stages, begins, calls, enters, needs, marks, needs-first, marks-then, acts, branches, loops, branches0, loops0, judged, permitted-now, whole-events, permitted-whole}
+use Rattle.model.proofs.Demand.Stages.{Stage, Progress, Stages, begins, calls, enters, needs, marks, needs-first, marks-then, acts, branches, loops, turns, branches0, loops0, turns0, judged, permitted-now, whole-events, permitted-whole}
 
 -- what one more record moves does not depend on what was moved before
 added : (d : Deed) (n : ℕ) (t u : Tally) → t .moved ≡ u .moved → counted d n t .moved ≡ counted d n u .moved
@@ -68,5 +68,7 @@ module _ (plan : DeclaredPlan) (cs : List Bool) (ok : Accepts plan) where
       ∙ (moved-whole h ∙ sym (ap (λ l. tally (plan .layout) l .moved) (permitted-whole plan cs ok (p .declarations) x (n .state) (n .history) permitted)))
   moved-whole (branches h) = moved-whole h
   moved-whole (loops h) = moved-whole h
+  moved-whole (turns h) = moved-whole h
   moved-whole (branches0 h) = moved-whole h
   moved-whole (loops0 h) = moved-whole h
+  moved-whole (turns0 h) = moved-whole h

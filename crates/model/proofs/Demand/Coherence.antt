@@ -20,9 +20,9 @@ use Rattle.model.proofs.Numbering.{own-span, in-own, covers-array, cove
 use Rattle.model.proofs.Booleans.{false-of, eqb-swap, is-same, is-true, is-other, same-or-other}
 use Rattle.model.proofs.Stamps.{as-verb}
 use Rattle.model.proofs.Written.{always-written}
-use Rattle.model.proofs.Demand.Blocks.{always-branch, always-loop}
+use Rattle.model.proofs.Demand.Blocks.{always-branch, always-loop, always-turn}
 use Rattle.model.proofs.Demand.Declarations.{is-of, declares-any, barred, once-first}
-use Rattle.model.proofs.Demand.Stages.{declaration, Stage, pass-at, ahead, body-left, Progress, Stages, begins, calls, enters, needs, marks, needs-first, marks-then, acts, branches, loops, branches0, loops0, Judged, judged, permitted-now}
+use Rattle.model.proofs.Demand.Stages.{declaration, Stage, pass-at, ahead, body-left, Progress, Stages, begins, calls, enters, needs, marks, needs-first, marks-then, acts, branches, loops, turns, branches0, loops0, turns0, Judged, judged, permitted-now}
 
 -- the copies and the latest stamp of one cell, and the flags of its array
 pub record CellState : Type 0 where
@@ -348,5 +348,7 @@ module _ (plan : DeclaredPlan) (cs : List Bool) (ok : Accepts plan) (c : ℕ) (i
   coherent (acts {p = p} {r} {x} {b} {n = n} h) = act-coherent layout c p r b x (n .state) (permitted-now x (judged plan cs ok h)) (coherent h)
   coherent (branches {r = r} {x} {y} {b} {c = z} h) = with-pending (λ t e. always-branch layout t c r z x y b e) (coherent h)
   coherent (loops {r = r} {x} {b} {c = z} h) = with-pending (λ t e. always-loop layout t c r z x b e) (coherent h)
+  coherent (turns {r = r} {m} {x} {b} h) = with-pending (λ t e. always-turn layout t c r m x b e) (coherent h)
   coherent (branches0 h) = coherent h
   coherent (loops0 h) = coherent h
+  coherent (turns0 h) = coherent h

@@ -1,5 +1,5 @@
 -- The run of an accepted plan's expansion goes from stage to stage, and no record of it is stuck.
-use Prim.Native.Nat.{ℕ, _<_}
+use Prim.Native.Nat.{ℕ, zero, suc, _<_}
 use mathlib.Core.Path.{_≡_, refl, ap, sym, _∙_, subst}
 use mathlib.Core.Logic.{_⊎_, inl, inr}
 use mathlib.Core.List.{List, [], _∷_}
@@ -11,7 +11,7 @@ use borrow.Author.Tests.{eq-eqb}
 use Rattle.model.specs.Sides.{Side, other, Layout, cell-count}
 use Rattle.model.specs.Records.{Verb, read, write, copy, need, mark, Action, whole-of, covers}
 use Rattle.model.specs.Effects.{Flags, State, current, Deed, needs as needs-cell, met, effect}
-use Rattle.model.specs.Blocks.{Block, act, branch, loop, _then_}
+use Rattle.model.specs.Blocks.{Block, act, branch, loop, fixed, _then_}
 use Rattle.model.specs.Runs.{Event, Config, Ending, finished, stopped, out-of-choices, Step, next, ends, lowest-unmet, stop-or, step, here, onward, Run, Ends, carried-on, proper}
 use Rattle.model.specs.Judging.{Mode, R, W, RW, Declaration, Pass, DeclaredPlan, pass-of, permits, Accepts}
 use Rattle.model.specs.Expanding.{given, expand, expansion}
@@ -25,7 +25,7 @@ use Rattle.model.proofs.Unmet.{none-unmet}
 use Rattle.model.proofs.Demand.Blocks.{then-assoc, expand-then}
 use Rattle.model.proofs.Demand.Declarations.{barred}
 use Rattle.model.proofs.Demand.Numbers.{unnumbered, unnumbered-same, unnumbered-events, unnumbered-config, unnumbered-step, step-unnumbered}
-use Rattle.model.proofs.Demand.Stages.{Did, Stage, in-body, declaring, marking, left-of, Progress, calling, Stages, begins, calls, enters, needs, marks, needs-first, marks-then, acts, branches, loops, branches0, loops0, judged, permitted-now}
+use Rattle.model.proofs.Demand.Stages.{Did, Stage, in-body, declaring, marking, left-of, Progress, calling, Stages, begins, calls, enters, needs, marks, needs-first, marks-then, acts, branches, loops, turns, branches0, loops0, turns0, judged, permitted-now}
 use Rattle.model.proofs.Demand.Coherence.{Current, opposite, at-cell, own-or-other, not-covered, CoherentIn, undeclared, coherent}
 
 -- what a record of an accepted plan needs of a cell is there
@@ -159,6 +159,9 @@ module _ (plan : DeclaredPlan) (cs : List Bool) where
         turn : (c : Bool) → cond c (x then loop r x (b then expand passes t)) (b then expand passes t) ≡ cond c (x then loop r x b) b then expand passes t
         turn true = sym (then-assoc x (loop r x b) (expand passes t))
         turn false = refl
+    body-next (fixed r zero x b) t p ch n more h = at-next (x then (b then expand passes t)) ch (sym (then-assoc x b (expand passes t))) (turns h)
+    body-next (fixed r (suc m) x b) t p ch n more h =
+        at-next (x then fixed r m x (b then expand passes t)) ch (sym (then-assoc x (fixed r m x b) (expand passes t))) (turns h)
 
     body0-next : (t : Block ℕ) (p : Pass) (ch : List Bool) (n : Progress) → Stages plan cs (in-body p Block.done t) ch n → ContinuesFrom (expand passes t) ch n
     body0-next Block.done p ch n h = λ l q. record { pass = p; state = n .state; made = n .made; called = n .called; stages = h }
@@ -177,6 +180,9 @@ module _ (plan : DeclaredPlan) (cs : List Bool) where
         turn : (c : Bool) → cond c (expand passes x then expand passes (loop r x t)) (expand passes t) ≡ expand passes (cond c (x then loop r x t) t)
         turn true = sym (expand-then passes x (loop r x t))
         turn false = refl
+    body0-next (fixed r zero x t) p ch n h = at-next (expand passes x then expand passes t) ch (sym (expand-then passes x t)) (turns0 h)
+    body0-next (fixed r (suc m) x t) p ch n h =
+        at-next (expand passes x then expand passes (fixed r m x t)) ch (sym (expand-then passes x (fixed r m x t))) (turns0 h)
 
     stage-next : (k : Stage) (ch : List Bool) (n : Progress) → Stages plan cs k ch n → ContinuesFrom (left-of passes k) ch n
     stage-next (in-body p b t) ch n h = body-next b t p ch n (body0-next t p ch n) h

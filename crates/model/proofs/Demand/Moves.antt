@@ -15,7 +15,7 @@ use Rattle.model.proofs.Needs.{flag-set, flag-clear}
 use Rattle.model.proofs.Booleans.{eqb-swap, is-true, is-not, other-side}
 use Rattle.model.proofs.Stamps.{as-verb}
 use Rattle.model.proofs.Demand.Declarations.{barred}
-use Rattle.model.proofs.Demand.Stages.{Did, Stage, in-body, declaring, marking, Progress, Stages, begins, calls, enters, needs, marks, needs-first, marks-then, acts, branches, loops, branches0, loops0, judged, permitted-now}
+use Rattle.model.proofs.Demand.Stages.{Did, Stage, in-body, declaring, marking, Progress, Stages, begins, calls, enters, needs, marks, needs-first, marks-then, acts, branches, loops, turns, branches0, loops0, turns0, judged, permitted-now}
 
 -- an interval of an array so far: the side of the declared write that begins it, and whether R has been declared on the opposite side since
 record Interval : Type 0 where
@@ -165,8 +165,10 @@ module _ (a : ℕ) where
     counted (acts {p = p} {x = x} {n = n} h) = act-counted (plan .layout) (p .declarations) x (n .state) (n .made) (permitted-now x (judged plan cs ok h)) (counted h)
     counted (branches h) = counted h
     counted (loops h) = counted h
+    counted (turns h) = counted h
     counted (branches0 h) = counted h
     counted (loops0 h) = counted h
+    counted (turns0 h) = counted h
 
   -- the interval after one more declaration
   abbrev next : Interval → Did → Interval

@@ -8,7 +8,7 @@ use Rattle.model.specs.Lists.{keep, All}
 use Rattle.model.specs.Sides.{Side, other, Layout}
 use Rattle.model.specs.Records.{Verb, read, write, copy, need, mark, whole, Action, whole-of}
 use Rattle.model.specs.Effects.{Flags, State, start, Deed, nothing, moves, deed, effect}
-use Rattle.model.specs.Blocks.{Block, act, branch, loop, _then_}
+use Rattle.model.specs.Blocks.{Block, act, branch, loop, fixed, _then_}
 use Rattle.model.specs.Runs.{Event}
 use Rattle.model.specs.Judging.{Mode, R, W, RW, Declaration, Pass, DeclaredPlan, pass-of, declared-once, permits, every-record, Way, at-end, passing, Itself, itself, Accepts}
 use Rattle.model.specs.Expanding.{expand}
@@ -16,10 +16,10 @@ pub use Rattle.model.specs.Inner.Declared.{no-pass, declaration, declare
 use Rattle.model.specs.Demand.{Called, called, Calls}
 use Rattle.model.proofs.Booleans.{and-out}
 use Rattle.model.proofs.Needs.{flag-set, flag-clear}
-use Rattle.model.proofs.Runs.{event}
+use Rattle.model.proofs.Runs.{after-turn, event}
 use Rattle.model.proofs.Stamps.{as-verb}
-use Rattle.model.proofs.Demand.Blocks.{every-branch, every-loop}
-use Rattle.model.proofs.Demand.Walks.{way-branch, way-loop}
+use Rattle.model.proofs.Demand.Blocks.{every-branch, every-loop, every-turn}
+use Rattle.model.proofs.Demand.Walks.{way-branch, way-loop, way-turn}
 use Rattle.model.proofs.Demand.Declarations.{barred, Rule, each-rule, rules-of, once-rest}
 
 -- where a run stands: in the body of a pass, with a block of it left; with declarations of a pass still to make;
@@ -145,11 +145,15 @@ module _ (plan : DeclaredPlan) (cs : List Bool) where
         Stages (in-body p (cond c x y then b) t) ch n
     loops : {p : Pass} {r : ℕ} {x b : Block Action} {t : Block ℕ} {c : Bool} {ch : List Bool} {n : Progress} → Stages (in-body p (loop r x b) t) (c ∷ ch) n →
         Stages (in-body p (cond c (x then loop r x b) b) t) ch n
+    turns : {p : Pass} {r m : ℕ} {x b : Block Action} {t : Block ℕ} {ch : List Bool} {n : Progress} → Stages (in-body p (fixed r m x b) t) ch n →
+        Stages (in-body p (x then after-turn r m x b) t) ch n
     -- body 0
     branches0 : {p : Pass} {r : ℕ} {x y t : Block ℕ} {c : Bool} {ch : List Bool} {n : Progress} → Stages (in-body p Block.done (branch r x y t)) (c ∷ ch) n →
         Stages (in-body p Block.done (cond c x y then t)) ch n
     loops0 : {p : Pass} {r : ℕ} {x t : Block ℕ} {c : Bool} {ch : List Bool} {n : Progress} → Stages (in-body p Block.done (loop r x t)) (c ∷ ch) n →
         Stages (in-body p Block.done (cond c (x then loop r x t) t)) ch n
+    turns0 : {p : Pass} {r m : ℕ} {x t : Block ℕ} {ch : List Bool} {n : Progress} → Stages (in-body p Block.done (fixed r m x t)) ch n →
+        Stages (in-body p Block.done (x then after-turn r m x t)) ch n
 
   -- whatever goes on from a stage, through what is left of the pass and of body 0, has gone from the start
   record WalksOn (b : Block Action) (t : Block ℕ) (ch : List Bool) (ps : List Pass) : Type 0 where
@@ -179,12 +183,18 @@ module _ (plan : DeclaredPlan) (cs : List Bool) where
   walks (loops {r = r} {x} {b} {c = c} h) =
       let i = walks h in
       record { from-start = λ ds es w qs u v. i .from-start ds es w qs (way-loop Itself r c x b u) v }
+  walks (turns {r = r} {m} {x} {b} h) =
+      let i = walks h in
+      record { from-start = λ ds es w qs u v. i .from-start ds es w qs (way-turn Itself r m x b u) v }
   walks (branches0 {r = r} {x} {y} {t} {c} {ch} h) =
       let i = walks h in
       record { from-start = λ ds es w qs u v. i .from-start (c ∷ ch) es [] qs at-end (way-branch (Called (plan .passes)) r c x y t (through-done u v)) }
   walks (loops0 {r = r} {x} {t} {c} {ch} h) =
       let i = walks h in
       record { from-start = λ ds es w qs u v. i .from-start (c ∷ ch) es [] qs at-end (way-loop (Called (plan .passes)) r c x t (through-done u v)) }
+  walks (turns0 {r = r} {m} {x} {t} {ch} h) =
+      let i = walks h in
+      record { from-start = λ ds es w qs u v. i .from-start ch es [] qs at-end (way-turn (Called (plan .passes)) r m x t (through-done u v)) }
 
   -- at the end body 0 has been walked through
   pub walked : {p : Pass} {ch : List Bool} {n : Progress} → Stages (in-body p Block.done Block.done) ch n →
@@ -204,8 +214,10 @@ module _ (plan : DeclaredPlan) (cs : List Bool) where
   declares-all (acts h) = declares-all h
   declares-all (branches h) = declares-all h
   declares-all (loops h) = declares-all h
+  declares-all (turns h) = declares-all h
   declares-all (branches0 h) = declares-all h
   declares-all (loops0 h) = declares-all h
+  declares-all (turns0 h) = declares-all h
 
 -- what the judge accepts holds of what is ahead in pass p: of the declarations ds and the block b
 pub record Judged (layout : Layout) (p : Pass) (ds : List Declaration) (b : Block Action) : Type 0 where
@@ -240,8 +252,11 @@ module _ (plan : DeclaredPlan) (cs : List Bool) (ok : Accepts plan) where
       record { rules = tt; once = refl; permitted = every-branch (permits (p .declarations)) r c x y b (judged h .permitted) }
   judged (loops {p = p} {r} {x} {b} {c = c} h) =
       record { rules = tt; once = refl; permitted = every-loop (permits (p .declarations)) r c x b (judged h .permitted) }
+  judged (turns {p = p} {r} {m} {x} {b} h) =
+      record { rules = tt; once = refl; permitted = every-turn (permits (p .declarations)) r m x b (judged h .permitted) }
   judged (branches0 h) = judged h
   judged (loops0 h) = judged h
+  judged (turns0 h) = judged h
 
   -- the needs and marks executed are those of the declarations made; the need of an RW comes then the RW counts as made
   abbrev ExecutedAt : Stage → Progress → Type 0
@@ -278,5 +293,7 @@ module _ (plan : DeclaredPlan) (cs : List Bool) (ok : Accepts plan) where
   executed-so-far (acts {p = p} {x = x} {n = n} h) = permitted-whole (p .declarations) x (n .state) (n .history) (permitted-now x (judged h)) ∙ executed-so-far h
   executed-so-far (branches h) = executed-so-far h
   executed-so-far (loops h) = executed-so-far h
+  executed-so-far (turns h) = executed-so-far h
   executed-so-far (branches0 h) = executed-so-far h
   executed-so-far (loops0 h) = executed-so-far h
+  executed-so-far (turns0 h) = executed-so-far h

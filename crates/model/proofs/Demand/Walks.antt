@@ -1,12 +1,13 @@
 -- Ways through one block and then another; the choices determine a way.
-use Prim.Native.Nat.{ℕ}
+use Prim.Native.Nat.{ℕ, zero, suc}
 use mathlib.Core.Path.{_≡_, refl, ap, ap₂, sym, _∙_, subst}
 use mathlib.Core.List.{List, [], _∷_, _++_, append-assoc}
 use mathlib.Core.Bool.{Bool, true, false, cond}
 use Rattle.model.specs.Records.{Action}
-use Rattle.model.specs.Blocks.{Block, act, branch, loop, _then_}
-use Rattle.model.specs.Judging.{Pass, Way, at-end, passing, choosing, leaving, turning, Itself, itself}
+use Rattle.model.specs.Blocks.{Block, act, branch, loop, fixed, _then_}
+use Rattle.model.specs.Judging.{Pass, Way, at-end, passing, choosing, leaving, turning, last-turn, earlier-turn, Itself, itself}
 use Rattle.model.specs.Demand.{Called, called}
+use Rattle.model.specs.Inner.Events.{after-turn}
 
 module _ {A B : Type 0} (Leaf : A → List Bool → List Bool → List B → Type 0) where
   -- the two parts of a way through one block and then another
@@ -18,24 +19,36 @@ module _ {A B : Type 0} (Leaf : A → List Bool → List Bool → List B → Typ
     second : Way Leaf b between es back
     whole : front ++ back ≡ w
 
+  -- with more in front
+  longer : {a d b : Block A} {cs ds es : List Bool} {w : List B} (v : List B) (m : Parted a b ds es w) →
+      Way Leaf d cs (m .between) (v ++ m .front) → Parted d b cs es (v ++ w)
+  longer v m h = record {
+    between = m .between;
+    front = v ++ m .front;
+    back = m .back;
+    first = h;
+    second = m .second;
+    whole = append-assoc v (m .front) (m .back) ∙ ap (λ l. v ++ l) (m .whole);
+  }
+
   part-loop : {r : ℕ} {x a b c : Block A} {cs es : List Bool} {w : List B} → ((cs es : List Bool) (w : List B) → Way Leaf c cs es w → Parted a b cs es w) →
       Way Leaf (loop r x c) cs es w → Parted (loop r x a) b cs es w
   part-loop parts (leaving {cs = cs} {ds} {w} h) =
       let m = parts cs ds w h in
       record { between = m .between; front = m .front; back = m .back; first = leaving (m .first); second = m .second; whole = m .whole }
-  part-loop parts (turning {v = v} h k) =
-      let m = part-loop parts k in
-      record { between = m .between; front = v ++ m .front; back = m .back; first = turning h (m .first); second = m .second; whole = append-assoc v (m .front) (m .back) ∙ ap (λ l. v ++ l) (m .whole) }
+  part-loop parts (turning {v = v} h k) = let m = part-loop parts k in longer v m (turning h (m .first))
+
+  part-turns : {r n : ℕ} {x a b c : Block A} {cs es : List Bool} {w : List B} → ((cs es : List Bool) (w : List B) → Way Leaf c cs es w → Parted a b cs es w) →
+      Way Leaf (fixed r n x c) cs es w → Parted (fixed r n x a) b cs es w
+  part-turns parts (last-turn {v = v} h k) = let m = parts _ _ _ k in longer v m (last-turn h (m .first))
+  part-turns parts (earlier-turn {v = v} h k) = let m = part-turns parts k in longer v m (earlier-turn h (m .first))
 
   part : (a b : Block A) (cs es : List Bool) (w : List B) → Way Leaf (a then b) cs es w → Parted a b cs es w
   part Block.done b cs es w h = record { between = cs; front = []; back = w; first = at-end; second = h; whole = refl }
-  part (act r x a) b cs es w (passing {ds = ds} {v = u} {w = v} h k) =
-      let m = part a b ds es v k in
-      record { between = m .between; front = u ++ m .front; back = m .back; first = passing h (m .first); second = m .second; whole = append-assoc u (m .front) (m .back) ∙ ap (λ l. u ++ l) (m .whole) }
-  part (branch r x y a) b cs es w (choosing {ds = ds} {v = u} {w = v} h k) =
-      let m = part a b ds es v k in
-      record { between = m .between; front = u ++ m .front; back = m .back; first = choosing h (m .first); second = m .second; whole = append-assoc u (m .front) (m .back) ∙ ap (λ l. u ++ l) (m .whole) }
+  part (act r x a) b cs es w (passing {ds = ds} {v = u} {w = v} h k) = let m = part a b ds es v k in longer u m (passing h (m .first))
+  part (branch r x y a) b cs es w (choosing {ds = ds} {v = u} {w = v} h k) = let m = part a b ds es v k in longer u m (choosing h (m .first))
   part (loop r x a) b cs es w h = part-loop (part a b) h
+  part (fixed r n x a) b cs es w h = part-turns (part a b) h
 
   pub way-branch : (r : ℕ) (c : Bool) (x y b : Block A) {cs es : List Bool} {w : List B} → Way Leaf (cond c x y then b) cs es w → Way Leaf (branch r x y b) (c ∷ cs) es w
   way-branch r c x y b {cs} {es} {w} h =
@@ -47,6 +60,14 @@ module _ {A B : Type 0} (Leaf : A → List Bool → List Bool → List B → Typ
       let m = part x (loop r x b) cs es w h in
       subst (λ l. Way Leaf (loop r x b) (true ∷ cs) es l) (m .whole) (turning (m .first) (m .second))
   way-loop r false x b h = leaving h
+
+  pub way-turn : (r n : ℕ) (x b : Block A) {cs es : List Bool} {w : List B} → Way Leaf (x then after-turn r n x b) cs es w → Way Leaf (fixed r n x b) cs es w
+  way-turn r zero x b {cs} {es} {w} h =
+      let m = part x b cs es w h in
+      subst (λ l. Way Leaf (fixed r zero x b) cs es l) (m .whole) (last-turn (m .first) (m .second))
+  way-turn r (suc n) x b {cs} {es} {w} h =
+      let m = part x (fixed r n x b) cs es w h in
+      subst (λ l. Way Leaf (fixed r (suc n) x b) cs es l) (m .whole) (earlier-turn (m .first) (m .second))
 
   -- the choices determine a way, if they determine what one record comes to
   module _ (leaf-same : (x : A) (cs ds es : List Bool) (v w : List B) → Leaf x cs ds v → Leaf x cs es w → (ds ≡ es) × (v ≡ w)) where
@@ -62,6 +83,8 @@ module _ {A B : Type 0} (Leaf : A → List Bool → List Bool → List B → Typ
     way-same (choosing {b = b} h h′) (choosing k k′) = both b (way-same h k) k′ (λ es u m. way-same h′ m)
     way-same (leaving h) (leaving k) = way-same h k
     way-same (turning {r = r} {x} {b} h h′) (turning k k′) = both (loop r x b) (way-same h k) k′ (λ es u m. way-same h′ m)
+    way-same (last-turn {b = b} h h′) (last-turn k k′) = both b (way-same h k) k′ (λ es u m. way-same h′ m)
+    way-same (earlier-turn {r = r} {n} {x} {b} h h′) (earlier-turn k k′) = both (fixed r n x b) (way-same h k) k′ (λ es u m. way-same h′ m)
 
 itself-same : (x : Action) (cs ds es : List Bool) (v w : List Action) → Itself x cs ds v → Itself x cs es w → (ds ≡ es) × (v ≡ w)
 itself-same x cs ds es v w itself itself = (refl, refl)

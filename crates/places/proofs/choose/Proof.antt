@@ -26,6 +26,9 @@ second-arm-requires c κs = search needs
 add-next : tie.Need-add-next
 add-next c = search needs
 
+add-q : tie.Need-add-q
+add-q c = search needs
+
 into-arm-requires : tie.Need-into-arm-requires
 into-arm-requires c κs = search needs
 
@@ -34,7 +37,7 @@ same-length c = search needs
 
 returns : tie.Need-returns
 unfolding chosen
-returns c = rw (eq-eqb _ 6 (c .before .before .before .before .before .if1 .taken), eq-eqb _ 0 (c .before .before .before .before .if2 .taken), ← c .before .before .before .before .before .before .before .second-arm .ensures .0, ← c .before .before .before .before .before .before .before .before .first-arm .ensures .0) (c .before .before .into-arm .ensures)
+returns c = rw (eq-eqb _ 6 (c .before .before .before .before .before .if1 .taken), eq-eqb _ 0 (c .before .before .before .before .if2 .taken), ← c .before .before .before .before .before .before .before .before .second-arm .ensures .0, ← c .before .before .before .before .before .before .before .before .before .first-arm .ensures .0) (c .before .before .into-arm .ensures)
 
 add-into-arm : tie.Need-add-into-arm
 add-into-arm c = search needs
@@ -47,14 +50,14 @@ same-length-2 c = search needs
 
 returns-2 : tie.Need-returns-2
 unfolding chosen
-returns-2 c = rw (eq-eqb _ 6 (c .before .before .before .before .before .if1 .taken), ne-eqb _ 0 (c .before .before .before .before .if2 .left), ← c .before .before .before .before .before .before .before .second-arm .ensures .0, ← c .before .before .before .before .before .before .before .before .first-arm .ensures .0) (c .before .before .into-arm2 .ensures)
+returns-2 c = rw (eq-eqb _ 6 (c .before .before .before .before .before .if1 .taken), ne-eqb _ 0 (c .before .before .before .before .if2 .left), ← c .before .before .before .before .before .before .before .before .second-arm .ensures .0, ← c .before .before .before .before .before .before .before .before .before .first-arm .ensures .0) (c .before .before .into-arm2 .ensures)
 
 skip-requires : tie.Need-skip-requires
 skip-requires c κs = search needs
 
 returns-3 : tie.Need-returns-3
 unfolding chosen
-returns-3 c = rw (ne-eqb _ 6 (c .before .before .if1 .left), eq-eqb _ 0 (c .before .if3 .taken), ← c .before .before .before .before .second-arm .ensures .0, ← c .before .before .before .before .before .first-arm .ensures .0) (c .skip .ensures _)
+returns-3 c = rw (ne-eqb _ 6 (c .before .before .if1 .left), eq-eqb _ 0 (c .before .if3 .taken), ← c .before .before .before .before .before .second-arm .ensures .0, ← c .before .before .before .before .before .before .first-arm .ensures .0) (c .skip .ensures _)
 
 add-into-arm-2 : tie.Need-add-into-arm-2
 add-into-arm-2 c = search needs
@@ -67,7 +70,7 @@ same-length-3 c = search needs
 
 returns-4 : tie.Need-returns-4
 unfolding chosen
-returns-4 c = rw (ne-eqb _ 6 (c .before .before .before .before .before .if1 .left), ne-eqb _ 0 (c .before .before .before .before .if3 .left), ← c .before .before .before .before .before .before .before .before .first-arm .ensures .0) (c .before .before .into-arm3 .ensures)
+returns-4 c = rw (ne-eqb _ 6 (c .before .before .before .before .before .if1 .left), ne-eqb _ 0 (c .before .before .before .before .if3 .left), ← c .before .before .before .before .before .before .before .before .before .first-arm .ensures .0) (c .before .before .into-arm3 .ensures)
 
 pub choose-spec : {M : Type 1} → statement M
 choose-spec =
@@ -78,6 +81,7 @@ choose-spec =
     add-second-2
     second-arm-requires
     add-next
+    add-q
     into-arm-requires
     same-length
     returns

@@ -35,9 +35,6 @@ slice-write-room-2 c = let h : 49 + c .before .args .p .depth < length (c .befor
 add-t9 : tie.Need-add-t9
 add-t9 c = search needs
 
-add-t8 : tie.Need-add-t8
-add-t8 c = search needs
-
 same-length : tie.Need-same-length
 same-length c = search needs
 
@@ -57,6 +54,5 @@ enter-spec =
     mul-room-2
     slice-write-room-2
     add-t9
-    add-t8
     same-length
     returns)

@@ -1,4 +1,4 @@
--- `records::all_records` answers numbers 8 to 10 of every body. The invariant: no record of a body before b stops.
+-- `records::all_records` answers numbers 8 to 10 and 26 of every body. The invariant: no record of a body before b stops.
 use mathlib.Core.Path.{_≡_, ap, sym, _∙_}
 use Prim.Native.Nat.{_-_, _≤_, _<_}
 use native.Mathlib.Omega.{arith}
@@ -69,7 +69,7 @@ add-until c = let x = stands c in search needs
 block-requires : tie.Need-block-requires Inv-loop μ-loop
 block-requires c κs =
     let x = stands c in
-    (omega arith, omega arith, omega arith, record { place = x .inside .place; room = omega arith }, rw (x .from-is, x .declarations-are))
+    (omega arith, omega arith, omega arith, omega arith, record { place = x .inside .place; room = omega arith }, rw (x .from-is, x .declarations-are))
 
 enum-told : tie.Need-enum-told Inv-loop μ-loop
 enum-told c = search needs

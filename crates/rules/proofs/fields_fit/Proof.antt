@@ -4,7 +4,7 @@ use mathlib.Core.Logic.{⊎-elim}
 use Prim.Native.Nat.{ℕ, _≤_}
 use native.Mathlib.Omega.{arith}
 use Rattle.reading.specs.Bytes.{length-at}
-use Rattle.rules.proofs.Fields.{Sizes, fit-cells-read, fit-array, fit-declaration, fit-branch, fit-loop, fit-call, fit-unknown}
+use Rattle.rules.proofs.Fields.{Sizes, fit-cells-read, fit-array, fit-declaration, fit-branch, fit-loop, fit-call, fit-fixed, fit-unknown}
 use borrow.Author.Needs.{needs}
 use Rattle.rules.proofs.fields_fit.Statement.{statement}
 use Rattle.rules.proofs.fields_fit.Tie as tie
@@ -13,8 +13,8 @@ use Rattle.rules.proofs.fields_fit.Tie as tie
 sizes : (c : tie.After-array-size) → Sizes (c .before .before .before .before .args .plan .now) (c .before .before .before .before .args .x) (c .before .before .byte .result) (c .before .byte2 .result) (length-at (c .before .before .before .before .args .plan .now) (c .before .before .before .before .args .x .array))
 sizes c = record { arrays-are = c .before .before .byte .ensures; bodies-are = c .before .byte2 .ensures; size-is = refl }
 
-known : (k : ℕ) → 6 ≤ k → k ≤ 8 → (k ≡ 6 → ⊥) → (k ≡ 7 → ⊥) → (k ≡ 8 → ⊥) → ⊥
-known k l h x y z = omega arith
+known : (k : ℕ) → 6 ≤ k → k ≤ 9 → (k ≡ 6 → ⊥) → (k ≡ 7 → ⊥) → (k ≡ 8 → ⊥) → (k ≡ 9 → ⊥) → ⊥
+known k l h x y z w = omega arith
 
 byte-requires : tie.Need-byte-requires
 byte-requires c κs = search needs
@@ -38,21 +38,24 @@ returns-3 : tie.Need-returns-3
 returns-3 c = fit-call _ _ _ _ _ (sizes (c .before .before .before .before .before .before .before .before .before)) (c .before .before .before .match .keys3)
 
 returns-4 : tie.Need-returns-4
-returns-4 c = let z = c .before .before .before .match .rest .1 in fit-cells-read _ _ _ _ _ (sizes (c .before .before .before .before .before .before .before .before .before)) _ (c .before .before .before .before .before .before .before .before .before .array-size .ensures) (omega arith) (omega arith)
+returns-4 c = fit-fixed _ _ _ _ _ (sizes (c .before .before .before .before .before .before .before .before)) (c .before .before .match .keys4)
 
 returns-5 : tie.Need-returns-5
-returns-5 c = ⊎-elim (λ w. fit-array _ _ _ _ _ (sizes (c .before .before .before .before .before .before .before .before .before .before)) (omega arith) (omega arith)) (λ w. fit-declaration _ _ _ _ _ (sizes (c .before .before .before .before .before .before .before .before .before .before)) (omega arith) (omega arith)) (c .before .before .if2 .came)
+returns-5 c = let z = c .before .before .before .match .rest .1 in fit-cells-read _ _ _ _ _ (sizes (c .before .before .before .before .before .before .before .before .before)) _ (c .before .before .before .before .before .before .before .before .before .array-size .ensures) (omega arith) (omega arith)
 
 returns-6 : tie.Need-returns-6
-returns-6 c = fit-unknown _ _ _ _ _ (sizes (c .before .before .before .before .before .before)) (λ u v. omega arith) (λ u v. omega arith)
+returns-6 c = ⊎-elim (λ w. fit-array _ _ _ _ _ (sizes (c .before .before .before .before .before .before .before .before .before .before)) (omega arith) (omega arith)) (λ w. fit-declaration _ _ _ _ _ (sizes (c .before .before .before .before .before .before .before .before .before .before)) (omega arith) (omega arith)) (c .before .before .if2 .came)
 
 returns-7 : tie.Need-returns-7
-returns-7 c =
-    let z = c .before .before .before .match .rest in
-    fit-unknown _ _ _ _ _ (sizes (c .before .before .before .before .before .before .before .before .before)) (λ u v. known _ (c .before .if2 .left) v (z .0 .0 .0 .1) (z .0 .0 .1) (z .0 .1)) (λ u v. omega arith)
+returns-7 c = fit-unknown _ _ _ _ _ (sizes (c .before .before .before .before .before .before)) (λ u v. omega arith) (λ u v. omega arith)
 
 returns-8 : tie.Need-returns-8
-returns-8 c = fit-unknown _ _ _ _ _ (sizes (c .before .before .before .before .before .before .before .before .before .before)) (λ u v. omega arith) (λ u v. omega arith)
+returns-8 c =
+    let z = c .before .before .before .match .rest in
+    fit-unknown _ _ _ _ _ (sizes (c .before .before .before .before .before .before .before .before .before)) (λ u v. known _ (c .before .if2 .left) v (z .0 .0 .0 .0 .1) (z .0 .0 .0 .1) (z .0 .0 .1) (z .0 .1)) (λ u v. omega arith)
+
+returns-9 : tie.Need-returns-9
+returns-9 c = fit-unknown _ _ _ _ _ (sizes (c .before .before .before .before .before .before .before .before .before .before)) (λ u v. omega arith) (λ u v. omega arith)
 
 pub fields-fit-spec : {M : Type 1} → statement M
 fields-fit-spec =
@@ -69,4 +72,5 @@ fields-fit-spec =
     returns-5
     returns-6
     returns-7
-    returns-8)
+    returns-8
+    returns-9)

@@ -9,6 +9,7 @@ use Rattle.model.specs.declared.Verdict.the-variants.{Accepted}
 use Rattle.model.specs.Records.{Action}
 use Rattle.model.specs.Blocks.{Block, size}
 use Rattle.model.specs.Inner.Declared.{declared}
+use Rattle.reading.specs.declared.Fields.{Fields}
 use Rattle.reading.specs.Bytes.{is-declared, body-count, records-in, fields-at}
 use Rattle.format.specs.Opening.{opening}
 use Rattle.format.specs.Plans.{pass-at}
@@ -21,6 +22,10 @@ pub record DeclaredFile (f : List ℕ) : Type 0 where
 -- what stands for a call of body b: what the pass's declarations give, and then its other records
 unfoldable pub called : List ℕ → ℕ → Block Action
 called f b = declared (pass-at f b .declarations) (pass-at f b .body)
+
+-- Q of a branch or a loop with the fields x: n, the records of a branch's second arm; a loop and a fixed loop keep theirs
+unfoldable pub second-field : Fields → ℕ → ℕ
+second-field x n = cond (eqb (x .kind) 6) n (x .q)
 
 -- how many records stand for record r of body 0
 unfoldable pub record-size : List ℕ → ℕ → ℕ

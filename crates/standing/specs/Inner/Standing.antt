@@ -22,7 +22,7 @@ use Rattle.acts.specs.declared.Stored.{Stored}
 use Rattle.acts.specs.declared.Acted.{Acted}
 use Rattle.acts.specs.declared.Acted.the-variants.{Done, Unmet}
 use Rattle.known.specs.declared.Known.{Known}
-use Rattle.places.specs.Inner.Places.{Spot, spot, settled, chosen, left-of, weight, Placed}
+use Rattle.places.specs.Inner.Places.{Spot, spot, settled, chosen, turned, left-of, weight, Placed}
 use Rattle.standing.specs.declared.Machine.{Machine}
 use Rattle.standing.specs.Choices.{choices-of}
 use Rattle.acts.specs.Inner.Acting.{Holds}
@@ -114,13 +114,21 @@ tested m x choices =
     cond (eqb (m .place .used) (length choices)) (ended-with m (Refused 22 (m .place .at)))
     (moved-to m (settled (chosen (m .place) x (getD choices (m .place .used) 0))) (m .flags) (m .others) (m .known))
 
--- more than the weight of any place
-abbrev pub heavy : ℕ
-heavy = 32768
+-- a turn of a fixed loop begins
+unfoldable pub turn-begun : Runner → Fields → Runner
+turn-begun m x = moved-to m (settled (turned (m .place) x)) (m .flags) (m .others) (m .known)
 
--- it falls with every step of a machine that runs
-unfoldable pub measure : ℕ → Runner → ℕ
-measure n m = (n - m .place .used) * heavy + weight (m .place) + cond (m .running) 1 0
+-- a record with arms
+unfoldable pub led : Runner → Fields → List ℕ → Runner
+led m x choices = cond (eqb (x .kind) 9) (turn-begun m x) (tested m x choices)
+
+-- more than the weight of what is left at any place
+abbrev pub heavy : ℕ
+heavy = 134217728
+
+-- it falls with every step of a machine that runs, where n choices are given
+unfoldable pub measure : List ℕ → ℕ → Runner → ℕ
+measure f n m = (n - m .place .used) * heavy + weight (left-of f (m .place)) + cond (m .running) 1 0
 
 -- the machine, the memories and the tally hold configuration k
 pub record Stands (f choices : List ℕ) (m : Runner) (own others latest : List ℕ) (t : Tally) (k : Config) : Type 0 where
@@ -135,7 +143,7 @@ pub record Stands (f choices : List ℕ) (m : Runner) (own others latest : List 
   pub choices-left : k .choices ≡ choices-of (drop (m .place .used) choices)
   pub holds : Holds (layout-of f) host (stored-with m t) own others latest (k .state) (k .history)
   -- what bounds the stamps and the tally
-  pub few : length (k .history) + weight (m .place) ≤ (m .place .used + 1) * heavy
+  pub few : length (k .history) + weight (left-of f (m .place)) ≤ (m .place .used + 1) * heavy
   pub few-moved : tally (layout-of f) (k .history) .moved ≤ length (k .history) * 4096
 
 -- the number of the record that comes next
@@ -144,6 +152,7 @@ next-record Block.done = 0
 next-record (Block.act r x b) = r
 next-record (Block.branch r x y b) = r
 next-record (Block.loop r x b) = r
+next-record (Block.fixed r n x b) = r
 
 -- what the machine says of an ending
 abbrev pub said-of : Ending → Verdict

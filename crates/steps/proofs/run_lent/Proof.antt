@@ -123,10 +123,10 @@ module _ {M : Type 1} (𝓤 : URA M) (H : Heap 𝓤) (A : Atoms 𝓤) (W : Given
   State = (n : Machine) × (host₁ : List ℕ) × (card₁ : List ℕ) × (latest₁ : List ℕ) × (space₁ : List ℕ) × (h : Tally) × Is N.the-row n (mach n ∷ []) × (length host₁ ≡ length (host .now)) × (length card₁ ≡ length (card .now)) × (length latest₁ ≡ length (latest .now)) × (length space₁ ≡ length (space .now)) × (Reaches (plan .now) (choices .now) (runner n space₁) host₁ card₁ latest₁ h × Same (cell-count (layout-of (plan .now))) (host .now) host₁ × Same (cell-count (layout-of (plan .now))) (card .now) card₁ × Same (cell-count (layout-of (plan .now))) (latest .now) latest₁)
 
   abbrev Nearer : State → State → Type 0
-  Nearer y x = left (length (choices .now)) (runner (y .0) (y .4)) < left (length (choices .now)) (runner (x .0) (x .4))
+  Nearer y x = left (plan .now) (length (choices .now)) (runner (y .0) (y .4)) < left (plan .now) (length (choices .now)) (runner (x .0) (x .4))
 
   Nearer-wf : WellFounded Nearer
-  Nearer-wf = InvImage·wf (λ (x : State). left (length (choices .now)) (runner (x .0) (x .4))) (Nat·lt-wfRel .wf)
+  Nearer-wf = InvImage·wf (λ (x : State). left (plan .now) (length (choices .now)) (runner (x .0) (x .4))) (Nat·lt-wfRel .wf)
 
   abbrev Plan : Fml
   Plan = ShrSlice (named 0) κ₀ u8 .own plan (slice-vals plan)
@@ -181,7 +181,7 @@ module _ {M : Type 1} (𝓤 : URA M) (H : Heap 𝓤) (A : Atoms 𝓤) (W : Given
 
     -- what `step_lent` says, at what it leaves
     abbrev Said : List ℕ → List ℕ → List ℕ → List ℕ → Tally → Machine → Type 0
-    Said host₂ card₂ latest₂ space₂ h₂ r = Steps (plan .now) (choices .now) (runner n space₁) host₁ card₁ latest₁ h (runner r space₂) host₂ card₂ latest₂ h₂ × (left (length (choices .now)) (runner r space₂) < left (length (choices .now)) (runner n space₁)) × Same (cell-count (layout-of (plan .now))) host₁ host₂ × Same (cell-count (layout-of (plan .now))) card₁ card₂ × Same (cell-count (layout-of (plan .now))) latest₁ latest₂
+    Said host₂ card₂ latest₂ space₂ h₂ r = Steps (plan .now) (choices .now) (runner n space₁) host₁ card₁ latest₁ h (runner r space₂) host₂ card₂ latest₂ h₂ × (left (plan .now) (length (choices .now)) (runner r space₂) < left (plan .now) (length (choices .now)) (runner n space₁)) × Same (cell-count (layout-of (plan .now))) host₁ host₂ × Same (cell-count (layout-of (plan .now))) card₁ card₂ × Same (cell-count (layout-of (plan .now))) latest₁ latest₂
 
   abbrev slice₀ : Ty
   slice₀ = sliceTy (tyRef (named 0) imm (tyInt w8))

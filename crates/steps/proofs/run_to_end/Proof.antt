@@ -1,8 +1,9 @@
 -- `run_to_end` runs an opened plain plan to its end.
 use mathlib.Core.Path.{refl, sym, ap, _∙_}
+use Prim.Native.Nat.{_+_}
 use native.Mathlib.Omega.{arith}
 use Rattle.memories.proofs.Cells.{changed-same, same-twice}
-use Rattle.steps.proofs.Begins.{reaches-start, ready-found, ready-facts, ready-plain, ready-front}
+use Rattle.steps.proofs.Begins.{reaches-start, all-zero, ready-found, ready-facts, ready-plain, ready-front}
 use borrow.Author.Needs.{needs}
 use Rattle.steps.proofs.run_to_end.Statement.{statement}
 use Rattle.steps.proofs.run_to_end.Tie as tie
@@ -47,7 +48,7 @@ run-steps-requires c κs =
     let w = c .before .before .before .before .before .before .before .before .before .before .before .before .write-start .ensures in
     let r = c .before .before .before .before .before .before .before .before .before .before .before .before .before .before .before .before .before .before .put-starts .ensures in
     rw (c .before .before .before .before .first-machine .ensures, ap (λ x. x .records) e, ap (λ x. x .arrays) e)
-    (reaches-start _ _ (ready-facts _ _ _ _ _ _ a) (a .plain) _ n _ _ _ _ _ _ (omega (arith, a .own-room)) (omega (arith, a .others-room)) (omega (arith, a .latest-room)) (w .0) (w .1 .0) (w .1 .1) _ (ready-plain _ _ _ _ _ _ a _ refl) (a .few) _ (r .size) (ready-front _ _ _ _ _ _ a _ r))
+    (reaches-start _ _ (ready-facts _ _ _ _ _ _ a) (a .plain) _ n _ _ _ _ _ _ (omega (arith, a .own-room)) (omega (arith, a .others-room)) (omega (arith, a .latest-room)) (w .0) (w .1 .0) (w .1 .1) _ (ready-plain _ _ _ _ _ _ a _ refl) (a .few) _ (r .size) (ready-front _ _ _ _ _ _ a _ _ r) (λ d. r .behind (65 + d) (omega arith) ∙ all-zero 81 (65 + d)))
 
 same-length : tie.Need-same-length
 same-length c = c .before .before .before .before .before .before .before .run-steps .ensures .2 .size ∙ c .before .before .before .before .before .before .before .before .before .before .before .before .before .before .before .before .before .before .before .before .write-start .ensures .0 .size

@@ -16,10 +16,11 @@ use Rattle.standing.specs.declared.Machine.{Machine}
 use Rattle.places.specs.Inner.Places.{started}
 use Rattle.standing.specs.Inner.Standing.{runner, Reaches}
 
--- the first cells of the arrays stand at the front of the room
-pub record Fronted (starts room : List ℕ) : Type 0 where
-  pub size : length room ≡ 65
+-- the first cells of the arrays stand at the front of the room, and behind them it is as before
+pub record Fronted (starts before room : List ℕ) : Type 0 where
+  pub size : length room ≡ 81
   pub front : (a : ℕ) → a < 33 → getD room a 0 ≡ getD starts a 0
+  pub behind : (a : ℕ) → 33 ≤ a → getD room a 0 ≡ getD before a 0
 
 -- before the first record
 abbrev pub first-machine : ℕ → ℕ → ℕ → Machine

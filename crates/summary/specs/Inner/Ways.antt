@@ -8,9 +8,10 @@ use lib.Dec.{eqb}
 use lib.ListN.{length, getD}
 use Rattle.model.specs.Sides.{span-of}
 use Rattle.model.specs.Records.{Action}
-use Rattle.model.specs.Blocks.{Block, done, branch, loop}
+use Rattle.model.specs.Blocks.{Block, done, branch, loop, fixed}
 use Rattle.model.specs.Inner.Statuses.{Status}
 use Rattle.model.specs.Inner.Stops.{Goes, Stops}
+use Rattle.reading.specs.declared.Fields.{Fields}
 use Rattle.reading.specs.Bytes.{layout-of, record-count, fields-at, first-arm}
 use Rattle.format.specs.Inner.Walks.{Plain, Walkable, block-between}
 use Rattle.statuses.specs.declared.acts.Found.{Found}
@@ -58,9 +59,9 @@ pub record Body (f : List ℕ) (r second : ℕ) : Type 0 where
   pub below : second ≤ record-count f
   pub walk : Walkable f (r + 1) second
 
--- a branch (kind 6) or a loop
-abbrev pub nest : ℕ → ℕ → Block Action → Block Action → Block Action
-nest kind r x y = cond (eqb kind 6) (branch r x y done) (loop r x done)
+-- a branch, a fixed loop or a loop, by the fields x of record r; of the Q turns of a fixed loop Q − 1 come after the first
+abbrev pub nest : Fields → ℕ → Block Action → Block Action → Block Action
+nest x r a b = cond (eqb (x .kind) 6) (branch r a b done) (cond (eqb (x .kind) 9) (fixed r (x .q - 1) a done) (loop r a done))
 
 -- t is what is found of the ways through block b, and the rows are exact again
 pub record Passed (f : List ℕ) (c class : ℕ) (b : Block Action) (from : Status → Type 0) (low : ℕ) (rows : List ℕ) (t : Found) : Type 0 where

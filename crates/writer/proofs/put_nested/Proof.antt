@@ -6,48 +6,36 @@ use borrow.Author.Needs.{needs}
 use Rattle.writer.proofs.put_nested.Statement.{statement}
 use Rattle.writer.proofs.put_nested.Tie as tie
 
+add-grown : tie.Need-add-grown
+add-grown c = record { fits = omega (arith, c .before .pre .0 .inside) }
+
 first-arm-requires : tie.Need-first-arm-requires
 first-arm-requires c κs = search needs
-
-add-grown : tie.Need-add-grown
-add-grown c = record { fits = omega (arith, c .before .before .pre .0 .inside) }
 
 grown-requires : tie.Need-grown-requires
 grown-requires c κs = let a = c .before .before .pre .0 in rw (c .first-arm .ensures .0) (omega (arith, a .inside), a .one-rises, omega (arith, a .two-rises, a .low))
 
-add-grown-2 : tie.Need-add-grown-2
-add-grown-2 c = record { fits = omega (arith, c .before .before .before .pre .0 .inside) }
-
-add-grown-3 : tie.Need-add-grown-3
-add-grown-3 c = record { fits = omega (arith, c .before .before .before .pre .0 .inside, c .before .first-arm .ensures .0) }
-
-second-arm-requires : tie.Need-second-arm-requires
-second-arm-requires c κs = search needs
-
-grown-requires-2 : tie.Need-grown-requires-2
-grown-requires-2 c κs = let a = c .before .before .before .before .pre .0 in rw (c .before .before .first-arm .ensures .0, c .second-arm .ensures .0) (omega (arith, a .inside), a .two-rises, a .low)
+second-field-requires : tie.Need-second-field-requires
+second-field-requires c κs = c .before .before .before .pre .0
 
 put-record-requires : tie.Need-put-record-requires
-put-record-requires c κs = c .before .before .before .before .before .before .pre .1
+put-record-requires c κs = c .before .before .before .before .before .pre .1
 
 same-length : tie.Need-same-length
 same-length c = search needs
 
 returns : tie.Need-returns
 unfolding nested
-returns c = c .before .before .put-record .ensures ∙ rw (c .before .before .before .before .before .before .grown .ensures, c .before .before .before .before .grown2 .ensures, c .before .before .before .before .before .before .before .first-arm .ensures .0, c .before .before .before .before .before .second-arm .ensures .0)
+returns c = c .before .before .put-record .ensures ∙ rw (c .before .before .before .before .before .grown .ensures, c .before .before .before .before .second-field .ensures, c .before .before .before .before .before .before .first-arm .ensures .0)
 
 pub put-nested-spec : {M : Type 1} → statement M
 put-nested-spec =
     tie.close
     (tie.spec
-    first-arm-requires
     add-grown
+    first-arm-requires
     grown-requires
-    add-grown-2
-    add-grown-3
-    second-arm-requires
-    grown-requires-2
+    second-field-requires
     put-record-requires
     same-length
     returns)

@@ -8,7 +8,7 @@ use Rattle.reading.specs.declared.Fields.{Fields}
 use Rattle.reading.specs.Bytes.{array-count, fields-at, first-arm, second-arm}
 use Rattle.files.specs.Files.{u16-bytes, fields}
 use Rattle.files.specs.Inner.Short.{block-fields}
-use Rattle.sizes.specs.Inner.Sizes.{called, place}
+use Rattle.sizes.specs.Inner.Sizes.{called, second-field, place}
 
 -- the arms of record r of body 0, with the fields x: where they begin in the expansion rises, and is not past 1,024
 pub record Arms (places : List ℕ) (r : ℕ) (x : Fields) : Type 0 where
@@ -17,11 +17,15 @@ pub record Arms (places : List ℕ) (r : ℕ) (x : Fields) : Type 0 where
   pub two-rises : getD places (r + 1 + first-arm x) 0 ≤ getD places (r + 1 + first-arm x + second-arm x) 0
   pub low : getD places (r + 1 + first-arm x + second-arm x) 0 ≤ 1024
 
+-- Q of that record, of a branch grown to fit
+unfoldable pub grown-second : List ℕ → ℕ → Fields → ℕ
+grown-second places r x =
+    let second = r + 1 + first-arm x in
+    second-field x (getD places (second + second-arm x) 0 - getD places second 0)
+
 -- that record with its arm counts grown to fit
 unfoldable pub nested : List ℕ → ℕ → Fields → Fields
-nested places r x =
-    let second = r + 1 + first-arm x in
-    fields (x .kind) 0 0 (getD places second 0 - getD places (r + 1) 0) (getD places (second + second-arm x) 0 - getD places second 0)
+nested places r x = fields (x .kind) 0 0 (getD places (r + 1 + first-arm x) 0 - getD places (r + 1) 0) (grown-second places r x)
 
 -- the records that stand for record r of body 0: those of a call; a branch or a loop with its arm counts grown to fit
 unfoldable pub piece : List ℕ → ℕ → List Fields
@@ -30,7 +34,7 @@ piece f r =
     let second = r + 1 + first-arm x in
     let next = second + second-arm x in
     cond (eqb (x .kind) 8) (block-fields (called f (x .p)))
-    (fields (x .kind) 0 0 (place f second - place f (r + 1)) (place f next - place f second) ∷ [])
+    (fields (x .kind) 0 0 (place f second - place f (r + 1)) (second-field x (place f next - place f second)) ∷ [])
 
 -- those that stand for the records before r
 unfoldable pub pieces : List ℕ → ℕ → List Fields

@@ -1,2 +1,0 @@
--- the loop with which a plan begins
-pub mod Beginning

@@ -1,2 +1,0 @@
--- So many turns of the loop with which a plan begins.
-pub mod Inner

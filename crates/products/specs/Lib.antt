@@ -1,0 +1,3 @@
+-- Number 26 of the expander.
+pub mod Products
+pub mod Inner

@@ -1,2 +1,0 @@
--- one turn, and so many
-pub mod Powers

@@ -1,2 +1,0 @@
--- So many turns of a loop.
-pub mod Inner
