@@ -38,7 +38,8 @@ fn stops(file: &[u8]) -> Option<usize> {
     check::summary(&walker::open(file).unwrap()).map(|stop| stop.record)
 }
 
-fn mended(rng: &mut Rng, mut draft: Draft, most: usize) -> Draft {
+/// A draft in which some of the records that stop are others.
+pub fn mended(rng: &mut Rng, mut draft: Draft, most: usize) -> Draft {
     let times = if rng.chance(60) { rng.between(0, 2) } else { rng.between(0, most) };
     mend(rng, &mut draft, times, &stops);
     draft

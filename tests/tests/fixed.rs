@@ -1,7 +1,7 @@
 //! Fixed loops, request (a) of document 02: the walker by hand, against itself,
 //! and against plans in which each turn is written out.
 
-use crate::check::answer_of;
+use crate::check::{answer_of, mended};
 use crate::walker::check::carried_on;
 use cuplihang_tests::generate::*;
 use cuplihang_tests::walker::check::{self, Stop, Summary};
@@ -378,16 +378,6 @@ fn every_plan_of_four_records() {
 #[test]
 fn every_small_plan_over_two_cells() {
     deciders_agree_on_every(&[2], &[1, 2, 3], 3);
-}
-
-fn stops(file: &[u8]) -> Option<usize> {
-    check::summary(&walker::open(file).unwrap()).map(|stop| stop.record)
-}
-
-fn mended(rng: &mut Rng, mut draft: Draft, most: usize) -> Draft {
-    let times = if rng.chance(60) { rng.between(0, 2) } else { rng.between(0, most) };
-    mend(rng, &mut draft, times, &stops);
-    draft
 }
 
 #[test]
