@@ -30,8 +30,8 @@ use reading::kinds::WRITE;
 
 // What a run keeps besides the memories: the flags of the host, those of the card, the tally, and what it knows of the cells.
 pub struct Stored {
-    pub flags: u32,
-    pub other_flags: u32,
+    pub flags: u64,
+    pub other_flags: u64,
     pub reads: u64,
     pub writes: u64,
     pub moved: u64,
@@ -181,7 +181,7 @@ fn with_both(r: Acted, array: u8) -> Acted
 }
 
 // The flags of a side.
-fn side_flags(on_card: bool, s: Stored) -> u32
+fn side_flags(on_card: bool, s: Stored) -> u64
     ensures { λ r. ⌜ r ≡ flags-on «on_card» s ⌝ }
 {
     if on_card {

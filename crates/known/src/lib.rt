@@ -14,8 +14,8 @@ use memories::flags::without_flag;
 // The arrays all of whose cells are known to be current on the host, and those on the card: bit a is array a. Two numbers and no more: they go through each step
 // of a run with the machine.
 pub struct Known {
-    pub host: u32,
-    pub card: u32,
+    pub host: u64,
+    pub card: u64,
 }
 
 // At the start of a run: every array is current on the host.
@@ -37,7 +37,7 @@ pub fn is_whole(from: usize, to: usize, first: u16, next: u16) -> bool
 }
 
 // An array added to a set, where all its cells have become current.
-fn added(known: u32, whole: bool, array: u8) -> u32
+fn added(known: u64, whole: bool, array: u8) -> u64
     requires { ⌜ array < 32 ⌝ }
     ensures { λ r. ⌜ Added whole array known r ⌝ }
 {
@@ -76,7 +76,7 @@ pub fn known_copied(k: Known, whole: bool, array: u8) -> Known
 }
 
 // What is known on a side.
-fn on_side(k: Known, on_card: bool) -> u32
+fn on_side(k: Known, on_card: bool) -> u64
     ensures { λ r. ⌜ r ≡ known-in «on_card» k ⌝ }
 {
     if on_card {

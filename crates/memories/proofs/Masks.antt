@@ -1,7 +1,7 @@
 -- Sets of flags as numbers: the bit operations on them, flag by flag, and how many are set.
-use mathlib.Core.Path.{_≡_, refl, ap₂, _∙_}
+use mathlib.Core.Path.{_≡_, refl, _∙_}
 use mathlib.Core.Bool.{Bool, true, false, cond, not, _&&_, _||_, xor, and-false}
-use Prim.Native.Nat.{ℕ, zero, suc, _+_, _-_, _*_, _%_, _^_, _<_}
+use Prim.Native.Nat.{ℕ, zero, suc, _+_, _-_, _*_, _%_, _^_, _≤_, _<_}
 use native.Nat.{ℕᴺ-discrete}
 use native.Mathlib.Decide.{decLt}
 use native.Mathlib.Nat.{pow-suc}
@@ -9,7 +9,7 @@ use native.Mathlib.Omega.{arith}
 use lib.Dec.{eqb}
 use lib.Bits.{bitAnd, bitOr, bitXor, and-block, or-block, xor-block}
 use lib.Count.{ones, onesIn, ones-cat}
-use lib.Pow.{pow-pos, shl-exact}
+use lib.Pow.{pow-pos, pow-mono, shl-exact}
 use borrow.Author.Tests.{eq-eqb, ne-eqb}
 use Rattle.model.specs.Lists.{how-many}
 use Rattle.memories.specs.Flags.{mask}
@@ -27,6 +27,10 @@ mask-low (suc n) x = go (x n) (mask-low n x) (pow-suc 2 n)
     go : (b : Bool) → mask n x < 2 ^ n → 2 ^ suc n ≡ 2 ^ n * 2 → digit b * 2 ^ n + mask n x < 2 ^ suc n
     go true h e = omega arith
     go false h e = omega arith
+
+-- no more than 32 of them fit a number of 32 bits
+pub mask-fits : (n : ℕ) (x : ℕ → Bool) → n ≤ 32 → mask n x < 4294967296
+mask-fits n x h = omega (arith, mask-low n x, pow-mono h)
 
 -- only the n flags count
 pub mask-same : (n : ℕ) (x y : ℕ → Bool) → ((a : ℕ) → a < n → x a ≡ y a) → mask n x ≡ mask n y

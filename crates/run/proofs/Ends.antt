@@ -16,13 +16,15 @@ use Rattle.model.specs.Rows.{answer-of}
 use Rattle.reading.specs.Bytes.{table, layout-of, lengths-of}
 use Rattle.format.specs.Plans.{plan-of}
 use Rattle.model.proofs.Rows.{unaccepted}
-use Rattle.reading.proofs.Tables.{length-table, getD-table}
+use Rattle.reading.proofs.Tables.{length-table, getD-table, arrays-counted}
+use Rattle.format.proofs.Walking.{opened-facts}
+use Rattle.memories.proofs.Masks.{mask-fits}
 use Rattle.model.specs.declared.End.{End}
 use Rattle.run.specs.Running.{Lent, lent, run-rows, memory, holding, no-end, end-of, Ran, Runs}
 use Rattle.standing.specs.Choices.{choices-of}
 use Rattle.memories.specs.Memories.{number-of}
 use Rattle.memories.specs.Inner.Ranges.{Same}
-use Rattle.standing.specs.Inner.Standing.{Runner, said-of, Over, Reaches}
+use Rattle.standing.specs.Inner.Standing.{Runner, said-of, Stands, Over, Reaches}
 use Rattle.run.specs.Inner.Ending.{end-with}
 
 -- a memory whose first n cells are as `held` says and whose others are as they were
@@ -77,6 +79,12 @@ module _ (f choices : List ℕ) (m : Runner) (own others latest : List ℕ) (u :
       go finished s a = ran-as finished s (a ∙ ap (λ v. end-with (length (layout .lengths)) (λ a. k .state .flags a .flag host) (λ a. k .state .flags a .flag card) v Accepted) used-is)
       go (stopped r d) s a = ran-as (stopped r d) s a
       go (out-of-choices r) s a = ran-as (out-of-choices r) s a
+
+-- where it stands its flags fit masks of 32 bits: a plan has no more arrays
+pub flags-fit : {f choices own others latest : List ℕ} {m : Runner} {t : Tally} {k : Config} → Stands f choices m own others latest t k → (m .flags < 4294967296) × (m .others < 4294967296)
+flags-fit {f = f} w =
+    let n : length (lengths-of f) ≤ 32 = rw (arrays-counted f) (opened-facts f (w .plain .opens) .bounds .header .arrays .1) in
+    (rw (w .holds .own-flags) (mask-fits _ _ n), rw (w .holds .others-flags) (mask-fits _ _ n))
 
 -- a refusal before the run
 module _ (f choices : List ℕ) (b : Lent) where

@@ -1,7 +1,7 @@
 // The answers of a run: the numbers before it, and what its end answers.
 ghost use mathlib.Core.Path.{_≡_};
 ghost use mathlib.Core.Bool.{Bool};
-ghost use Prim.Native.Nat.{ℕ, _≤_};
+ghost use Prim.Native.Nat.{ℕ, _≤_, _<_};
 ghost use Rattle.model.specs.declared.Tally.{Tally};
 ghost use Rattle.model.specs.Rows.{answer-of};
 ghost use Rattle.format.specs.Opening.{opened};
@@ -61,7 +61,7 @@ pub fn no_end(v: Verdict) -> End
 
 // What the end of a run answers.
 pub fn end_of(m: Machine) -> End
-    requires { ⌜ m .place .used ≤ 65536 ⌝ }
+    requires { ⌜ (m .place .used ≤ 65536) × (m .flags < 4294967296) × (m .«other_flags» < 4294967296) ⌝ }
     ensures { λ r. ⌜ ((n : ℕ) (host card : ℕ → Bool) → m .flags ≡ mask n host → m .«other_flags» ≡ mask n card → r ≡ end-with n host card (m .place .used) (m .verdict)) ⌝ }
 {
     let v = m.verdict;
@@ -69,12 +69,14 @@ pub fn end_of(m: Machine) -> End
         return no_end(v);
     };
     let p = m.place;
+    let host = m.flags as u32;
+    let card = m.other_flags as u32;
     End {
         verdict: Verdict::Accepted,
         used: p.used as u32,
-        host_flags: m.flags,
-        card_flags: m.other_flags,
-        on_host: flags_set(m.flags),
-        on_card: flags_set(m.other_flags),
+        host_flags: host,
+        card_flags: card,
+        on_host: flags_set(host),
+        on_card: flags_set(card),
     }
 }

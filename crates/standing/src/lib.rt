@@ -23,8 +23,8 @@ use reading::kinds::FIXED;
 // The counters stand in the tally alone.
 pub struct Machine {
     pub place: Place,
-    pub flags: u32,
-    pub other_flags: u32,
+    pub flags: u64,
+    pub other_flags: u64,
     pub bodies: usize,
     pub last: Record,
     pub verdict: Verdict,
@@ -68,7 +68,7 @@ pub fn over(m: Machine, v: Verdict, kept: Tally) -> Stepped
 }
 
 // The run has moved on from a record.
-fn moved(m: Machine, p: Place, flags: u32, other_flags: u32, k: Known) -> Machine
+fn moved(m: Machine, p: Place, flags: u64, other_flags: u64, k: Known) -> Machine
     requires { ⌜ m .place .at < 65536 ⌝ }
     ensures { λ r. ⌜ ((room : List ℕ) → runner r room ≡ moved-to (runner m room) (spot p room) flags «other_flags» k) ⌝ }
 {

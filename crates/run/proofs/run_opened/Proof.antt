@@ -6,7 +6,7 @@ use Rattle.model.specs.Rows.{answer-of}
 use Rattle.model.proofs.Rows.{turned}
 use Rattle.run.specs.Running.{lent, run-rows}
 use Rattle.run.proofs.Begins.{begins}
-use Rattle.run.proofs.Ends.{ran, runs-refused, runs-ran}
+use Rattle.run.proofs.Ends.{ran, flags-fit, runs-refused, runs-ran}
 use borrow.Author.Needs.{needs}
 use Rattle.run.proofs.run_opened.Statement.{statement}
 use Rattle.run.proofs.run_opened.Tie as tie
@@ -42,7 +42,7 @@ run-to-end-requires c κs =
     record { found = c .before .before .before .before .before .before .before .before .before .before .before .before .before .before .pre; opens = b .opens; plain = b .plain; own-room = b .host-room; others-room = b .card-room; latest-room = b .latest-room; few = b .few }
 
 end-of-requires : tie.Need-end-of-requires
-end-of-requires c κs = let w = c .before .before .before .before .before .before .before .before .run-to-end .ensures .0 .reaches .stands in omega (arith, w .used, w .many)
+end-of-requires c κs = let w = c .before .before .before .before .before .before .before .before .run-to-end .ensures .0 .reaches .stands in let q = flags-fit w in (omega (arith, w .used, w .many), q .0, q .1)
 
 same-length-4 : tie.Need-same-length-4
 same-length-4 c = search needs
