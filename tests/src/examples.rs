@@ -73,6 +73,24 @@ pub fn fill(turns: Option<u16>) -> Draft {
     declared_draft(&[8], &[Step::Fixed(2, vec![call(1), call(2)])], &[clear, look])
 }
 
+/// Two layers interleaved in one grid of eight cells: the card writes the even
+/// cells while the host reads the odd ones; then the even ones go to the host.
+pub fn layers() -> Vec<Step> {
+    vec![
+        every(2, write(CARD, 0, 0, 8)),
+        every(2, read(HOST, 0, 1, 8)),
+        every(2, copy(HOST, 0, 0, 8)),
+        read(HOST, 0, 0, 8),
+    ]
+}
+
+/// The same with a read of both layers too early.
+pub fn layers_early() -> Vec<Step> {
+    let mut steps = layers();
+    steps[1] = read(HOST, 0, 1, 8);
+    steps
+}
+
 /// Each file of `examples/` by its name.
 pub fn examples() -> Vec<(String, Vec<u8>)> {
     let router = encode(&router());
@@ -90,6 +108,9 @@ pub fn examples() -> Vec<(String, Vec<u8>)> {
     files.push(("router-short.choices".into(), ROUTER_CHOICES[..3].into()));
     files.push(("fill.plan".into(), encode(&fill(Some(3)))));
     files.push(("fill-free.plan".into(), encode(&fill(None))));
+    files.push(("layers.plan".into(), encode(&Draft::plain(&[8], &layers()))));
+    files.push(("layers-early.plan".into(), encode(&Draft::plain(&[8], &layers_early()))));
+    files.push(("none.choices".into(), vec![]));
     files.push(("old-way.plan".into(), encode(&Draft::plain(&[1], &old_way()))));
     files.push(("old-way.choices".into(), OLD_WAY_CHOICES.into()));
     files

@@ -9,6 +9,7 @@ mod every;
 mod fixed;
 mod plain;
 mod rng;
+mod steps;
 
 pub use cases::*;
 pub use damage::*;
@@ -17,6 +18,7 @@ pub use every::*;
 pub use fixed::*;
 pub use plain::*;
 pub use rng::Rng;
+pub use steps::*;
 
 /// A record as its eight bytes; nothing keeps it from being wrong.
 pub type Raw = [u8; 8];

@@ -117,6 +117,45 @@ fn seeded_fixed_loops() {
     }
 }
 
+/// All plans of up to two records over four cells, with steps up to four.
+#[test]
+fn every_small_plan_with_steps() {
+    let mut counts = Counts::new();
+    for records in 0..=2 {
+        for draft in every_stepped_plan(&[4], &[0, 2, 3, 4], records) {
+            match_brute(&draft, &mut counts);
+        }
+    }
+    println!("{counts:?}");
+    assert!(counts[&0] > 10_000 && counts[&18] > 10_000);
+}
+
+/// Steps in plans of every size, and where no kind has one.
+#[test]
+fn seeded_steps() {
+    let mut rng = Rng::new(67);
+    let mut counts = Counts::new();
+    for _ in 0..6000 {
+        let draft = small_stepped(&mut rng);
+        match_brute(&mended(&mut rng, draft, 40), &mut counts);
+        let shape = Shape::medium(&mut rng);
+        let mut draft = plain(&mut rng, &shape);
+        give_steps(&mut rng, &mut draft, 60, &STEPS);
+        match_check(&encode(&mended(&mut rng, draft, 40)), &mut counts);
+        match_check(&any_stepped_file(&mut rng), &mut counts);
+    }
+    for _ in 0..100 {
+        let shape = Shape::large(&mut rng);
+        let mut draft = plain(&mut rng, &shape);
+        give_steps(&mut rng, &mut draft, 60, &STEPS);
+        match_check(&encode(&mended(&mut rng, draft, 30)), &mut counts);
+    }
+    println!("{counts:?}");
+    for number in [0, 8, 11, 18] {
+        assert!(counts.get(&number).is_some_and(|&n| n >= 200), "number {number} is too rare");
+    }
+}
+
 #[test]
 fn seeded_small_plans() {
     let mut rng = Rng::new(60);

@@ -76,7 +76,14 @@ fn file_length(file: &[u8]) -> usize {
     entry + 4 + 8 * records + 2
 }
 
-fn some_declared(rng: &mut Rng, round: usize) -> Draft {
+/// The plan of the file that the library writes of a plan, if it writes one.
+pub fn written(file: &[u8]) -> Option<Plan> {
+    let mut out = vec![PATTERN; 9000];
+    let accepted = archive::expand(file, &mut out).number == 0;
+    accepted.then(|| walker::open(&out[..file_length(&out)]).unwrap())
+}
+
+pub fn some_declared(rng: &mut Rng, round: usize) -> Draft {
     match round % 8 {
         0..=2 => accepted_small(rng),
         3 => {
@@ -126,6 +133,44 @@ fn seeded_plans_expanded() {
     println!("{counts:?}, written {written}");
     for number in [0, 12, 13, 14, 15, 16, 17] {
         assert!(counts.get(&number).is_some_and(|&n| n > 500), "number {number} is too rare");
+    }
+}
+
+/// Writes of every k-th cell meet a W together, exactly if none of them is missing.
+#[test]
+fn stepped_writes_meet_a_w_together() {
+    for k in 1..=6u8 {
+        for length in [1, 5, 6, 13] {
+            for some in 0..1u32 << k {
+                let these = (0..k).filter(|i| some >> i & 1 != 0 && u16::from(*i) < length);
+                let steps = these.map(|i| every(k, write(1, 0, u16::from(i), length)));
+                let pass = Pass { declarations: vec![declare(17, 1, 0)], steps: steps.collect() };
+                let file = encode(&declared_draft(&[length], &[call(1)], &[pass]));
+                match_judge(&file, &mut Counts::new());
+                match_rooms(&file, &mut Counts::new());
+                let all = (0..k).all(|i| some >> i & 1 != 0 || u16::from(i) >= length);
+                assert_eq!(archive::judge(&file).number, if all { 0 } else { 15 });
+            }
+        }
+    }
+}
+
+/// The expansion keeps the byte as it is, 0 and 1 apart.
+#[test]
+fn seeded_steps() {
+    let mut rng = Rng::new(78);
+    let (mut judged, mut expanded) = (Counts::new(), Counts::new());
+    for round in 0..6000 {
+        let mut draft = some_declared(&mut rng, round);
+        give_steps(&mut rng, &mut draft, 40, &[0, 1, 1, 2, 3, 255]);
+        let file = if rng.chance(10) { any_stepped_file(&mut rng) } else { encode(&draft) };
+        match_judge(&file, &mut judged);
+        match_rooms(&file, &mut expanded);
+    }
+    println!("{judged:?}\n{expanded:?}");
+    for number in [0, 15] {
+        assert!(judged.get(&number).is_some_and(|&n| n >= 200), "judge: number {number} is too rare");
+        assert!(expanded.get(&number).is_some_and(|&n| n >= 200), "expand: number {number} is too rare");
     }
 }
 
@@ -215,12 +260,8 @@ fn demand_3_on_what_is_written() {
     let (mut runs, mut finished, mut moves) = (0, 0, 0);
     for _ in 0..4000 {
         let file = encode(&accepted_small(&mut rng));
-        let mut out = vec![PATTERN; 9000];
-        if archive::expand(&file, &mut out).number != 0 {
-            continue;
-        }
+        let Some(expansion) = written(&file) else { continue };
         let declared = walker::open(&file).unwrap();
-        let expansion = walker::open(&out[..file_length(&out)]).unwrap();
         for _ in 0..5 {
             let length = rng.between(0, 150);
             let more = rng.between(10, 60);

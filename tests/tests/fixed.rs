@@ -3,17 +3,17 @@
 
 use crate::check::{answer_of, mended};
 use crate::walker::check::carried_on;
+use crate::written_out::WrittenOut;
 use cuplihang_tests::generate::*;
 use cuplihang_tests::walker::check::{self, Stop, Summary};
 use cuplihang_tests::walker::demand::{calls_reached, demand_3, Breach};
 use cuplihang_tests::walker::expand::{expansion, size};
 use cuplihang_tests::walker::near::{Checker, Fixed, Judge};
-use cuplihang_tests::walker::plan::{Body, Record, BRANCH, CALL, FIXED, MAX_TURNS};
+use cuplihang_tests::walker::plan::{Body, Record, CALL, FIXED, MAX_TURNS};
 use cuplihang_tests::walker::run::{run_plan, Done};
 use cuplihang_tests::walker::{self, FileKind, Memories, Plan, Refusal, RunEnd, Tally, Verdict};
 use cuplihang_tests::words::refusal;
 use std::collections::BTreeMap;
-use std::ops::Range;
 
 const HOST: u8 = 0;
 const CARD: u8 = 1;
@@ -29,58 +29,6 @@ fn one_cell(steps: &[Step]) -> Plan {
 /// Number and place of the opening, 0 and 0 if it opens.
 fn opened(draft: &Draft) -> (u16, usize) {
     walker::open(&encode(draft)).map_or_else(|refused| (refused.number, refused.place), |_| (0, 0))
-}
-
-// ---- Plans with each turn written out ----
-
-/// A plan without its fixed loops: the arm of each stands there as often as it
-/// turns. With each record, the number that it had.
-struct WrittenOut {
-    plan: Plan,
-    was: Vec<usize>,
-}
-
-impl WrittenOut {
-    fn of(plan: &Plan) -> WrittenOut {
-        let (mut records, mut was, mut bodies) = (vec![], vec![], vec![]);
-        for body in &plan.bodies {
-            let first = records.len();
-            for r in body.first..body.steps().start {
-                records.push(plan.records[r]);
-                was.push(r);
-            }
-            write_out(plan, body.steps(), &mut records, &mut was);
-            bodies.push(Body { first, count: records.len() - first, declarations: body.declarations });
-        }
-        WrittenOut { plan: Plan::new(plan.kind, &plan.lengths(), bodies, records), was }
-    }
-}
-
-fn write_out(plan: &Plan, part: Range<usize>, records: &mut Vec<Record>, was: &mut Vec<usize>) {
-    let mut r = part.start;
-    while r < part.end {
-        let x = plan.records[r];
-        let (first, second) = plan.arms(r);
-        if x.kind == FIXED {
-            for _ in 0..x.q {
-                write_out(plan, first.clone(), records, was);
-            }
-        } else {
-            let head = records.len();
-            records.push(x);
-            was.push(r);
-            if !first.is_empty() || !second.is_empty() {
-                write_out(plan, first, records, was);
-                let middle = records.len();
-                write_out(plan, second.clone(), records, was);
-                records[head].p = middle - head - 1;
-                if x.kind == BRANCH {
-                    records[head].q = records.len() - middle;
-                }
-            }
-        }
-        r = second.end;
-    }
 }
 
 // ---- Opening ----
@@ -338,7 +286,7 @@ fn checks_by_hand() {
 }
 
 fn by_writing_out(plan: &Plan) -> Option<Stop> {
-    let WrittenOut { plan, was } = WrittenOut::of(plan);
+    let WrittenOut { plan, was } = WrittenOut::turns(plan);
     let stops = Checker::default().stops(&plan);
     stops.into_iter().map(|stop| Stop { record: was[stop.record], ..stop }).min()
 }
@@ -477,7 +425,7 @@ fn stamps_stop_where_the_check_says() {
             continue;
         }
         let plan = plan_of(&draft);
-        let WrittenOut { plan: long, was } = WrittenOut::of(&plan);
+        let WrittenOut { plan: long, was } = WrittenOut::turns(&plan);
         let stops = every_choices(6).flat_map(|choices| carried_on(&long, &choices));
         let lowest = stops.map(|stop| Stop { record: was[stop.record], ..stop }).min();
         assert_eq!(lowest, check::summary(&plan), "{plan:?}");
@@ -629,7 +577,7 @@ fn runs_are_those_with_each_turn_written_out() {
             }
         };
         let plan = plan_of(&mended(&mut rng, draft, 60));
-        let WrittenOut { plan: long, was } = WrittenOut::of(&plan);
+        let WrittenOut { plan: long, was } = WrittenOut::turns(&plan);
         let (length, more) = (rng.between(0, 60), rng.between(10, 60));
         let list = choices(&mut rng, length, more);
         let (end, tally, memories) = ran(&long, &list);
@@ -722,7 +670,7 @@ fn judges_agree() {
         let plan = plan_of(&some_declared(&mut rng, round));
         let answer = walker::judge::passes(&plan);
         assert_eq!(answer, Judge::Right.passes(&plan), "{plan:?}");
-        let WrittenOut { plan: long, was } = WrittenOut::of(&plan);
+        let WrittenOut { plan: long, was } = WrittenOut::turns(&plan);
         let written_out = walker::judge::passes(&long);
         assert_eq!(answer, written_out.map_err(|refused| Refusal { place: was[refused.place], ..refused }));
         *counts.entry(answer.err().map_or(0, |refused| refused.number)).or_default() += 1;
@@ -850,8 +798,8 @@ fn expansions_written_out() {
     let mut rng = Rng::new(412);
     for _ in 0..3000 {
         let plan = plan_of(&accepted_fixed(&mut rng));
-        let one = WrittenOut::of(&expansion(&plan)).plan;
-        let two = expansion(&WrittenOut::of(&plan).plan);
+        let one = WrittenOut::turns(&expansion(&plan)).plan;
+        let two = expansion(&WrittenOut::turns(&plan).plan);
         assert_eq!(one, two, "{plan:?}");
     }
 }
@@ -892,7 +840,7 @@ fn demand_3_clause_by_clause() {
     for _ in 0..4000 {
         let plan = plan_of(&accepted_fixed(&mut rng));
         assert_eq!(walker::judge::passes(&plan), Ok(()));
-        let (expanded, long) = (expansion(&plan), WrittenOut::of(&plan).plan);
+        let (expanded, long) = (expansion(&plan), WrittenOut::turns(&plan).plan);
         fixed += usize::from(expanded.records.iter().any(|x| x.kind == FIXED));
         for _ in 0..4 {
             let length = rng.between(0, 120);

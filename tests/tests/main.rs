@@ -12,6 +12,8 @@ mod planlist;
 mod programs;
 mod run;
 mod sheet;
+mod steps;
 mod streams;
 mod sums;
 mod walker;
+mod written_out;

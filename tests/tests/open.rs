@@ -54,6 +54,18 @@ fn seeded_fixed_loops() {
     }
 }
 
+/// Steps, in their places and elsewhere.
+#[test]
+fn seeded_steps() {
+    let mut rng = Rng::new(9);
+    let (mut counts, mut views) = (Counts::new(), Counts::new());
+    for _ in 0..10_000 {
+        match_all(&generate::any_stepped_file(&mut rng), &mut counts, &mut views);
+    }
+    println!("open: {counts:?}");
+    assert!([0, 8].iter().all(|number| counts.get(number).is_some_and(|&n| n >= 500)));
+}
+
 #[test]
 fn seeded_files() {
     let mut rng = Rng::new(3);

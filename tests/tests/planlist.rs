@@ -24,11 +24,28 @@ fn numbers(before: &str, range: Range<usize>) -> String {
     }
 }
 
+/// Of a number as in "2nd".
+fn ending(n: usize) -> &'static str {
+    match (n % 10, n % 100) {
+        (_, 11..=13) => "th",
+        (1, _) => "st",
+        (2, _) => "nd",
+        (3, _) => "rd",
+        _ => "th",
+    }
+}
+
 fn words(record: &Record) -> String {
     let on = format!("{} array {}", ["host", "card"][record.side], record.array);
-    let cells = || match record.q - record.p {
-        1 => format!("cell {}", record.p),
-        _ => numbers("cells ", record.p..record.q),
+    let cells = || {
+        let range = match record.q - record.p {
+            1 => format!("cell {}", record.p),
+            _ => numbers("cells ", record.p..record.q),
+        };
+        match record.step {
+            0 | 1 => range,
+            step => format!("{range}, every {step}{} cell", ending(step)),
+        }
     };
     match record.kind {
         READ => format!("read {on} {}", cells()),
@@ -289,6 +306,20 @@ fn inputs_of_any_length() {
         match_listing(&file, &mut counts);
     }
     assert!([1, 2, 6].iter().all(|number| counts.contains_key(number)));
+}
+
+/// Steps in words.
+#[test]
+fn seeded_steps() {
+    let mut rng = Rng::new(116);
+    let mut counts = Counts::new();
+    for _ in 0..300 {
+        match_listing(&any_stepped_file(&mut rng), &mut counts);
+    }
+    for step in [0, 1, 2, 3, 4, 10, 11, 12, 13, 20, 21, 22, 23, 24, 99, 100, 101, 111, 112, 113, 122, 255] {
+        match_listing(&encode(&Draft::plain(&[9], &[every(step, read(0, 0, 3, 9))])), &mut counts);
+    }
+    assert!(counts.get(&0).is_some_and(|&n| n >= 50));
 }
 
 /// Fixed loops, and files that say 26.

@@ -157,7 +157,7 @@ fn seeded_runs() {
             let plan = walker::open(&file).unwrap();
             let x = &plan.records[answer.place as usize];
             ends.entry(x.kind).or_default().push((answer.place, answer.cell));
-            within += usize::from(x.kind != READ && plan.covered(x).start < answer.cell as usize);
+            within += usize::from(x.kind != READ && plan.covered(x).from < answer.cell as usize);
         }
     }
     assert_counted(&counts, (0..=11).chain(19..=22), 100);
@@ -227,6 +227,42 @@ fn every_run_of_every_small_plan_with_fixed_loops() {
         }
     }
     assert_counted(&counts, [0, 21, 22], 5000);
+}
+
+/// All plans of up to two records over three cells with steps, on all lists of up
+/// to two choices.
+#[test]
+fn every_run_of_every_small_plan_with_steps() {
+    let mut counts = Counts::new();
+    for records in 0..=2 {
+        for draft in every_stepped_plan(&[3], &[0, 2, 3], records) {
+            let file = encode(&draft);
+            let lent = Lent::beyond(&file, 1);
+            for list in (0..=2).flat_map(every_choices) {
+                match_run(&file, &list, &lent, &mut counts);
+            }
+        }
+    }
+    assert_counted(&counts, [0, 21, 22], 1000);
+}
+
+/// Steps of every size in runs that get far.
+#[test]
+fn seeded_runs_of_steps() {
+    let mut rng = Rng::new(89);
+    let mut counts = Counts::new();
+    for _ in 0..10_000 {
+        let (length, more) = (rng.between(0, 40), rng.between(10, 70));
+        let list = choices(&mut rng, length, more);
+        let shape = Shape::any(&mut rng);
+        let mut draft = plain(&mut rng, &shape);
+        give_steps(&mut rng, &mut draft, 70, &STEPS);
+        let times = rng.pick(&[0, 2, 20, 200]);
+        mend(&mut rng, &mut draft, times, &|file| stop(file, &list));
+        let file = encode(&draft);
+        match_run(&file, &list, &Lent::beyond(&file, 3), &mut counts);
+    }
+    assert_counted(&counts, [0, 21, 22], 500);
 }
 
 /// Fixed loops of any shape whose runs get far, and files of which none runs.

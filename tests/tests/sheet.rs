@@ -29,7 +29,7 @@ fn library(n: u64) -> Result<Vec<u64>, u16> {
 /// operations.
 fn sequence(n: usize, i: usize) -> Plan {
     let operation = |place: u32| OPERATIONS[i / 6usize.pow(place) % 6];
-    let record = |(kind, side)| Record { kind, side, array: 0, p: 0, q: 1 };
+    let record = |(kind, side)| Record { kind, side, array: 0, step: 0, p: 0, q: 1 };
     let records = (0..n as u32).map(|place| record(operation(place))).collect();
     Plan::new(FileKind::Plain, &[1], vec![Body { first: 0, count: n, declarations: 0 }], records)
 }

@@ -9,7 +9,7 @@ use lib.Dec.{eqb}
 use lib.ListN.{length, getD}
 use borrow.Author.Tests.{eqb-true}
 use Rattle.model.specs.Sides.{Side, other, same-side, Stamp, at, Layout, cell-count}
-use Rattle.model.specs.Records.{read, write, copy, need, mark, same-verb, Action, covers}
+use Rattle.model.specs.Records.{read, write, copy, need, mark, same-verb, Action, stepped, covers}
 use Rattle.model.specs.Effects.{Stamps, Flags, State, current, Deed, nothing, gets, puts, moves, comes-to, needs, does, deed, met, effect}
 use Rattle.model.specs.Runs.{Event, lowest-unmet}
 use Rattle.model.proofs.Booleans.{is-same, is-other}
@@ -22,12 +22,11 @@ use Rattle.acts.specs.declared.Acted.{Acted}
 use Rattle.acts.specs.declared.Acted.the-variants.{Done, Unmet}
 use Rattle.memories.specs.Memories.{number-of}
 use Rattle.memories.specs.Flags.{mask}
-use Rattle.memories.specs.Inner.Ranges.{among, FirstStale, Changed}
+use Rattle.memories.specs.Inner.Ranges.{FirstStale, Changed}
 use Rattle.known.specs.declared.Known.{Known}
 use Rattle.known.specs.Inner.Knowing.{Knows, Wrote, Copied}
 use Rattle.known.proofs.Sets.{Piece, added-sound, dropped-sound}
 use Rattle.memories.proofs.Masks.{mask-same}
-use Rattle.memories.proofs.Cells.{among-out}
 use Rattle.acts.specs.Inner.Acting.{Low, with-verb, CellsAt, CellsOf, Holds, BothSetAs, FollowsAs, MovesCells}
 use Rattle.acts.proofs.Stale.{range-piece, Sees, all-fine, stale-at}
 
@@ -70,30 +69,27 @@ module _ (t : Side) (k : ℕ) (u : Stamps) where
   move-latest false = refl
 
 -- a cell of the range is as `new` says, and every other as it was
-new-here : {from to : ℕ} {new : ℕ → ℕ} {before after : List ℕ} → Changed from to new before after → (c : ℕ) → among from to c ≡ true → getD after c 0 ≡ new c
+new-here : {k from to : ℕ} {new : ℕ → ℕ} {before after : List ℕ} → Changed k from to new before after → (c : ℕ) → stepped k from to c ≡ true → getD after c 0 ≡ new c
 new-here a c e = rw e at (a .cell c)
 
-kept-there : {from to : ℕ} {new : ℕ → ℕ} {before after : List ℕ} → Changed from to new before after → (c : ℕ) → among from to c ≡ false → getD after c 0 ≡ getD before c 0
+kept-there : {k from to : ℕ} {new : ℕ → ℕ} {before after : List ℕ} → Changed k from to new before after → (c : ℕ) → stepped k from to c ≡ false → getD after c 0 ≡ getD before c 0
 kept-there a c e = rw e at (a .cell c)
 
 -- what is known after a write, seen from its side
-written-known : {layout : Layout} {a : ℕ} {whole : Bool} {from to n : ℕ} {k k′ : Known} {own own′ others latest latest′ : List ℕ} → Piece layout a whole from to → Wrote false whole a k k′ →
-    Changed from to (λ c. n) own own′ → Changed from to (λ c. n) latest latest′ → Knows layout k own others latest → Knows layout k′ own′ others latest′
+written-known : {layout : Layout} {a : ℕ} {whole : Bool} {k from to n : ℕ} {known known′ : Known} {own own′ others latest latest′ : List ℕ} → Piece layout a whole k from to → Wrote false whole a known known′ →
+    Changed k from to (λ c. n) own own′ → Changed k from to (λ c. n) latest latest′ → Knows layout known own others latest → Knows layout known′ own′ others latest′
 written-known p w x y m = record {
   on-host = added-sound p (w .own) (λ c e. new-here x c e ∙ sym (new-here y c e)) (kept-there x) (kept-there y) (m .on-host);
   on-card = dropped-sound p (w .others) (kept-there y) (m .on-card);
 }
 
 -- and after a copy
-copied-known : {layout : Layout} {a : ℕ} {whole : Bool} {from to : ℕ} {k k′ : Known} {own own′ others latest : List ℕ} → Piece layout a whole from to → Copied whole a k k′ →
-    FirstStale others latest from to to → Changed from to (λ c. getD others c 0) own own′ → Knows layout k own others latest → Knows layout k′ own′ others latest
-copied-known {from = from} {to = to} {others = others} {latest = latest} p w f x m = record {
-  on-host = added-sound p (w .on-host) (λ c e. new-here x c e ∙ source c e) (kept-there x) (λ c e. refl) (m .on-host);
-  on-card = added-sound p (w .on-card) source (λ c e. refl) (λ c e. refl) (m .on-card);
+copied-known : {layout : Layout} {a : ℕ} {whole : Bool} {k from to : ℕ} {known known′ : Known} {own own′ others latest : List ℕ} → Piece layout a whole k from to → Copied whole a known known′ →
+    FirstStale others latest k from to to → Changed k from to (λ c. getD others c 0) own own′ → Knows layout known own others latest → Knows layout known′ own′ others latest
+copied-known p w f x m = record {
+  on-host = added-sound p (w .on-host) (λ c e. new-here x c e ∙ f .before c e) (kept-there x) (λ c e. refl) (m .on-host);
+  on-card = added-sound p (w .on-card) (f .before) (λ c e. refl) (λ c e. refl) (m .on-card);
 }
-  where
-    source : (c : ℕ) → among from to c ≡ true → getD others c 0 ≡ getD latest c 0
-    source c e = let i = among-out from to c e in f .before c (i .0) (i .1)
 
 -- memories, flags and tally that hold the state σ, seen from side t
 module _ {layout : Layout} {t : Side} {s : Stored} {own others latest : List ℕ} {σ : State} {l : List Event} (h : Holds layout t s own others latest σ l) where
@@ -120,20 +116,20 @@ module _ {layout : Layout} {t : Side} {s : Stored} {own others latest : List ℕ
       subst (λ (z : Deed × (ℕ → Flags)). Holds layout t s′ own′ others′ latest′ (after y z) (record { number = 0; action = y; deed = z .0 } ∷ l)) (sym e)
       (g (subst (λ (z : Deed × (ℕ → Flags)). Past (after y z)) e (past-effect layout y σ (h .past))))
 
-  -- the cells of y, which are those from `from` up to `to`, get new copies on side t
-  own-changed : {y : Action} {from to : ℕ} → CellsAt layout y from to → (new : ℕ → ℕ) (own′ : List ℕ) → Changed from to new own own′ →
+  -- the cells of y, which are those from `from` up to `to` at step k, get new copies on side t
+  own-changed : {y : Action} {k from to : ℕ} → CellsAt layout y k from to → (new : ℕ → ℕ) (own′ : List ℕ) → Changed k from to new own own′ →
       (c : ℕ) → c < cell-count layout → (v : Stamp) → new c ≡ number-of v → getD own′ c 0 ≡ number-of (cond (covers layout y c) v (σ .cell c .held t))
-  own-changed {from = from} {to = to} k new own′ a c z v n = rw (k .cells c) (a .cell c ∙ chosen-number (among from to c) (new c) (getD own c 0) v (σ .cell c .held t) n (h .own-held c z))
+  own-changed {k = k} {from = from} {to = to} y new own′ a c z v n = rw (y .cells c) (a .cell c ∙ chosen-number (stepped k from to c) (new c) (getD own c 0) v (σ .cell c .held t) n (h .own-held c z))
 
   -- what a record does to no flag
   same-flags : (x : Action) (f : ℕ → Flags) (a : ℕ) → cond (eqb a (x .name)) (f a) (f a) ≡ f a
   same-flags x f a = kept (eqb a (x .name)) (f a)
 
-  module _ (x : Action) {from to : ℕ} (k : CellsAt layout (with-verb read t x) from to) where
-    pub read-done : Low s → {r : ℕ} → FirstStale own latest from to r → to ≤ r →
+  module _ (x : Action) {k from to : ℕ} (z : CellsAt layout (with-verb read t x) k from to) where
+    pub read-done : Low s → {r : ℕ} → FirstStale own latest k from to r → to ≤ r →
         FollowsAs layout (with-verb read t x) t σ l own others latest (Done (record { flags = s .flags; «other_flags» = s .«other_flags»; reads = s .reads + 1; writes = s .writes; moved = s .moved; known = s .known })) own latest
     read-done low {r} f m = (
-      all-fine layout t own latest σ (sees-own low) (covers layout (with-verb read t x)) from to (λ c z. k .cells c) (with-verb read t x) (λ c. refl) r f m,
+      all-fine layout t own latest σ (sees-own low) (covers layout (with-verb read t x)) k from to (λ c i. z .cells c) (with-verb read t x) (λ c. refl) r f m,
       as-deed (with-verb read t x) (gets t) (σ .flags) refl (same-flags x (σ .flags)) λ past. record {
         own-room = h .own-room;
         others-room = h .others-room;
@@ -152,12 +148,12 @@ module _ {layout : Layout} {t : Side} {s : Stored} {own others latest : List ℕ
       },
     )
 
-    pub read-unmet : Low s → {r : ℕ} → FirstStale own latest from to r → r < to → lowest-unmet layout (with-verb read t x) σ ≡ some r
+    pub read-unmet : Low s → {r : ℕ} → FirstStale own latest k from to r → r < to → lowest-unmet layout (with-verb read t x) σ ≡ some r
     read-unmet low {r} f m =
-        stale-at layout t own latest σ (sees-own low) (covers layout (with-verb read t x)) from to (λ c z. k .cells c) (with-verb read t x) (λ c. refl) r f m (k .ends)
+        stale-at layout t own latest σ (sees-own low) (covers layout (with-verb read t x)) k from to (λ c i. z .cells c) (with-verb read t x) (λ c. refl) r f m (z .ends)
 
-  module _ (x : Action) {a : ℕ} {whole : Bool} {from to : ℕ} (z : CellsOf layout (with-verb write t x) a whole from to) where
-    pub write-done : (n : Known) → Wrote false whole a (s .known) n → {own′ latest′ : List ℕ} → Changed from to (λ c. s .writes + 1) own own′ → Changed from to (λ c. s .writes + 1) latest latest′ →
+  module _ (x : Action) {a : ℕ} {whole : Bool} {k from to : ℕ} (z : CellsOf layout (with-verb write t x) a whole k from to) where
+    pub write-done : (n : Known) → Wrote false whole a (s .known) n → {own′ latest′ : List ℕ} → Changed k from to (λ c. s .writes + 1) own own′ → Changed k from to (λ c. s .writes + 1) latest latest′ →
         FollowsAs layout (with-verb write t x) t σ l own others latest (Done (record { flags = s .flags; «other_flags» = s .«other_flags»; reads = s .reads; writes = s .writes + 1; moved = s .moved; known = n })) own′ latest′
     write-done n w {own′} a b = (
       none-unmet layout (with-verb write t x) σ (λ c i. or-true (not (covers layout (with-verb write t x) c))),
@@ -167,7 +163,7 @@ module _ {layout : Layout} {t : Side} {s : Stored} {own others latest : List ℕ
         latest-room = omega (arith, h .latest-room, b .size);
         own-held = λ c i. own-changed (z .range) _ own′ a c i (at (suc (σ .writes))) (omega (arith, h .counted)) ∙ ap number-of (sym (put-own t (suc (σ .writes)) (σ .cell c) (covers layout (with-verb write t x) c)));
         others-held = λ c i. h .others-held c i ∙ ap number-of (sym (put-others t (suc (σ .writes)) (σ .cell c) (covers layout (with-verb write t x) c)));
-        latest-held = λ c i. b .cell c ∙ (chosen-stamp (among from to c) (s .writes + 1) (getD latest c 0) (suc (σ .writes)) (σ .cell c .latest) (omega (arith, h .counted)) (h .latest-held c i) ∙ rw (← z .range .cells c) (sym (put-latest t (suc (σ .writes)) (σ .cell c) (covers layout (with-verb write t x) c))));
+        latest-held = λ c i. b .cell c ∙ (chosen-stamp (stepped k from to c) (s .writes + 1) (getD latest c 0) (suc (σ .writes)) (σ .cell c .latest) (omega (arith, h .counted)) (h .latest-held c i) ∙ rw (← z .range .cells c) (sym (put-latest t (suc (σ .writes)) (σ .cell c) (covers layout (with-verb write t x) c))));
         own-flags = h .own-flags;
         others-flags = h .others-flags;
         reads = h .reads;
@@ -180,8 +176,8 @@ module _ {layout : Layout} {t : Side} {s : Stored} {own others latest : List ℕ
     )
 
   -- a copy of the cells of y, whatever becomes of the flags
-  module _ {y : Action} {a : ℕ} {whole : Bool} {from to : ℕ} (z : CellsOf layout y a whole from to) (still : same-verb (y .verb) write ≡ false) where
-    moved-cells : {s′ s″ : Stored} {own′ : List ℕ} (f : ℕ → Flags) → MovesCells a whole from to s own others latest (Done s′) own′ →
+  module _ {y : Action} {a : ℕ} {whole : Bool} {k from to : ℕ} (z : CellsOf layout y a whole k from to) (still : same-verb (y .verb) write ≡ false) where
+    moved-cells : {s′ s″ : Stored} {own′ : List ℕ} (f : ℕ → Flags) → MovesCells a whole k from to s own others latest (Done s′) own′ →
         s″ .flags ≡ mask (length (layout .lengths)) (λ b. f b .flag t) → s″ .«other_flags» ≡ mask (length (layout .lengths)) (λ b. f b .flag (other t)) →
         s″ .reads ≡ s′ .reads → s″ .writes ≡ s′ .writes → s″ .moved ≡ s′ .moved → s″ .known ≡ s′ .known →
         Past (after y (moves (other t) t, f)) → Holds layout t s″ own′ others latest (after y (moves (other t) t, f)) (record { number = 0; action = y; deed = moves (other t) t } ∷ l)
@@ -202,15 +198,15 @@ module _ {layout : Layout} {t : Side} {s : Stored} {own others latest : List ℕ
       knows = rw q (copied-known (range-piece z) n g m (h .knows));
     }
 
-    stale-source : Low s → ((c : ℕ) → met layout y σ c ≡ (not (covers layout y c) || current (σ .cell c) (other t))) → {r : ℕ} → FirstStale others latest from to r → r < to → lowest-unmet layout y σ ≡ some r
-    stale-source low e {r} f m = stale-at layout (other t) others latest σ (sees-others low) (covers layout y) from to (λ c i. z .range .cells c) y e r f m (z .range .ends)
+    stale-source : Low s → ((c : ℕ) → met layout y σ c ≡ (not (covers layout y c) || current (σ .cell c) (other t))) → {r : ℕ} → FirstStale others latest k from to r → r < to → lowest-unmet layout y σ ≡ some r
+    stale-source low e {r} f m = stale-at layout (other t) others latest σ (sees-others low) (covers layout y) k from to (λ c i. z .range .cells c) y e r f m (z .range .ends)
 
-    fine-source : Low s → ((c : ℕ) → met layout y σ c ≡ (not (covers layout y c) || current (σ .cell c) (other t))) → FirstStale others latest from to to → lowest-unmet layout y σ ≡ none
-    fine-source low e f = all-fine layout (other t) others latest σ (sees-others low) (covers layout y) from to (λ c i. z .range .cells c) y e to f (omega arith)
+    fine-source : Low s → ((c : ℕ) → met layout y σ c ≡ (not (covers layout y c) || current (σ .cell c) (other t))) → FirstStale others latest k from to to → lowest-unmet layout y σ ≡ none
+    fine-source low e f = all-fine layout (other t) others latest σ (sees-others low) (covers layout y) k from to (λ c i. z .range .cells c) y e to f (omega arith)
 
   -- a copy
-  pub copy-follows : (x : Action) {a : ℕ} {whole : Bool} {from to : ℕ} → CellsOf layout (with-verb copy t x) a whole from to → Low s → (r : Acted) (own′ : List ℕ) →
-      MovesCells a whole from to s own others latest r own′ → FollowsAs layout (with-verb copy t x) t σ l own others latest r own′ latest
+  pub copy-follows : (x : Action) {a : ℕ} {whole : Bool} {k from to : ℕ} → CellsOf layout (with-verb copy t x) a whole k from to → Low s → (r : Acted) (own′ : List ℕ) →
+      MovesCells a whole k from to s own others latest r own′ → FollowsAs layout (with-verb copy t x) t σ l own others latest r own′ latest
   copy-follows x z low (Done s′) own′ m = (
     fine-source z refl low (λ c. refl) (m .0),
     as-deed (with-verb copy t x) (moves (other t) t) (σ .flags) refl (same-flags x (σ .flags))
@@ -218,7 +214,7 @@ module _ {layout : Layout} {t : Side} {s : Stored} {own others latest : List ℕ
   )
   copy-follows x z low (Unmet c) own′ (f, m, e) = (stale-source z refl low (λ c. refl) f m, e, refl)
 
-  module _ (x : Action) {a : ℕ} {whole : Bool} {from to : ℕ} (z : CellsOf layout (with-verb need t x) a whole from to) where
+  module _ (x : Action) {a : ℕ} {whole : Bool} {k from to : ℕ} (z : CellsOf layout (with-verb need t x) a whole k from to) where
     abbrev y : Action
     y = with-verb need t x
 
@@ -277,7 +273,7 @@ module _ {layout : Layout} {t : Side} {s : Stored} {own others latest : List ℕ
           go true = refl
           go false = refl
 
-      pub need-follows : (r q : Acted) (own′ : List ℕ) → MovesCells a whole from to s own others latest r own′ → BothSetAs r a q → FollowsAs layout y t σ l own others latest q own′ latest
+      pub need-follows : (r q : Acted) (own′ : List ℕ) → MovesCells a whole k from to s own others latest r own′ → BothSetAs r a q → FollowsAs layout y t σ l own others latest q own′ latest
       need-follows (Done s′) (Done s″) own′ m b =
           let n = length (layout .lengths) in
           let one : a < n = rw (z .array) at (z .range .one) in (

@@ -1,5 +1,5 @@
 -- A record acts on the memories of its side: the laws of each kind hold seen from that side, and so from the host; then by the record's kind.
-use Prim.Native.Nat.{ℕ, _+_, _-_, _≤_, _<_}
+use Prim.Native.Nat.{ℕ, _+_, _≤_, _<_}
 use mathlib.Core.Path.{_≡_, refl, ap}
 use mathlib.Core.Bool.{Bool, true, false, cond, not, true≢false}
 use mathlib.Core.List.{List}
@@ -23,7 +23,7 @@ use Rattle.known.specs.Inner.Knowing.{Wrote, Copied}
 use Rattle.acts.specs.declared.Stored.{Stored}
 use Rattle.acts.specs.declared.Acted.{Acted}
 use Rattle.acts.specs.declared.Acted.the-variants.{Done, Unmet}
-use Rattle.acts.specs.Inner.Acting.{Low, with-verb, CellsAt, ArrayAt, CellsOf, Holds, BothSetAs, FollowsAs, ActsAs, Acts, side-on, flags-on, MovesCells, MovesOn}
+use Rattle.acts.specs.Inner.Acting.{Low, with-verb, cells-between, CellsAt, ArrayAt, CellsOf, Holds, BothSetAs, FollowsAs, ActsAs, Acts, side-on, flags-on, MovesCells, MovesOn}
 use Rattle.acts.proofs.Stale.{none-stale}
 use Rattle.acts.proofs.Acting.{read-done, read-unmet, write-done, copy-follows, need-idle, need-follows, mark-done}
 
@@ -48,11 +48,11 @@ low-seen : (b : Bool) {s : Stored} → Low s → Low (seen b s)
 low-seen true low = record { reads = low .reads; writes = low .writes; moved = low .moved }
 low-seen false low = low
 
-moves-seen : (b : Bool) (a : ℕ) (whole : Bool) (from to : ℕ) (s : Stored) (own others latest own′ : List ℕ) (r : Acted) → MovesCells a whole from to s own others latest r own′ → MovesCells a whole from to (seen b s) own others latest (seen-as b r) own′
-moves-seen true a whole from to s own others latest own′ (Done s′) (f, m, e, k) = (f, m, ap swapped e, record { on-host = k .on-card; on-card = k .on-host })
-moves-seen true a whole from to s own others latest own′ (Unmet c) m = m
-moves-seen false a whole from to s own others latest own′ (Done s′) m = m
-moves-seen false a whole from to s own others latest own′ (Unmet c) m = m
+moves-seen : (b : Bool) (a : ℕ) (whole : Bool) (k from to : ℕ) (s : Stored) (own others latest own′ : List ℕ) (r : Acted) → MovesCells a whole k from to s own others latest r own′ → MovesCells a whole k from to (seen b s) own others latest (seen-as b r) own′
+moves-seen true a whole k from to s own others latest own′ (Done s′) (f, m, e, n) = (f, m, ap swapped e, record { on-host = n .on-card; on-card = n .on-host })
+moves-seen true a whole k from to s own others latest own′ (Unmet c) m = m
+moves-seen false a whole k from to s own others latest own′ (Done s′) m = m
+moves-seen false a whole k from to s own others latest own′ (Unmet c) m = m
 
 both-seen : (b : Bool) (a : ℕ) (r q : Acted) → BothSetAs r a q → BothSetAs (seen-as b r) a (seen-as b q)
 both-seen true a (Done s) (Done s′) m = record { own = m .others; others = m .own; reads = m .reads; writes = m .writes; moved = m .moved; known = ap turned (m .known) }
@@ -101,34 +101,34 @@ module _ {layout : Layout} {s : Stored} {hs cs latest : List ℕ} {σ : State} {
   flags-held false = h .own-flags
 
   module _ (low : Low s) where
-    pub read-done-on : (b : Bool) (x : Action) {from to : ℕ} → CellsAt layout (with-verb read (side-on b) x) from to → {r : ℕ} → FirstStale (of-side b hs cs) latest from to r → to ≤ r →
+    pub read-done-on : (b : Bool) (x : Action) {k from to : ℕ} → CellsAt layout (with-verb read (side-on b) x) k from to → {r : ℕ} → FirstStale (of-side b hs cs) latest k from to r → to ≤ r →
         ActsAs layout (with-verb read (side-on b) x) σ l hs cs latest (Done (record { flags = s .flags; «other_flags» = s .«other_flags»; reads = s .reads + 1; writes = s .writes; moved = s .moved; known = s .known })) hs cs latest
-    read-done-on true x k f m = acts-on layout (with-verb read card x) σ l hs cs latest true (Done (record { flags = s .flags; «other_flags» = s .«other_flags»; reads = s .reads + 1; writes = s .writes; moved = s .moved; known = s .known })) hs cs latest refl (read-done (holds-on true) x k (low-seen true low) f m)
-    read-done-on false x k f m = acts-on layout (with-verb read host x) σ l hs cs latest false (Done (record { flags = s .flags; «other_flags» = s .«other_flags»; reads = s .reads + 1; writes = s .writes; moved = s .moved; known = s .known })) hs cs latest refl (read-done h x k low f m)
+    read-done-on true x z f m = acts-on layout (with-verb read card x) σ l hs cs latest true (Done (record { flags = s .flags; «other_flags» = s .«other_flags»; reads = s .reads + 1; writes = s .writes; moved = s .moved; known = s .known })) hs cs latest refl (read-done (holds-on true) x z (low-seen true low) f m)
+    read-done-on false x z f m = acts-on layout (with-verb read host x) σ l hs cs latest false (Done (record { flags = s .flags; «other_flags» = s .«other_flags»; reads = s .reads + 1; writes = s .writes; moved = s .moved; known = s .known })) hs cs latest refl (read-done h x z low f m)
 
-    pub read-unmet-on : (b : Bool) (x : Action) {from to : ℕ} → CellsAt layout (with-verb read (side-on b) x) from to → {r : ℕ} → FirstStale (of-side b hs cs) latest from to r → r < to →
+    pub read-unmet-on : (b : Bool) (x : Action) {k from to : ℕ} → CellsAt layout (with-verb read (side-on b) x) k from to → {r : ℕ} → FirstStale (of-side b hs cs) latest k from to r → r < to →
         lowest-unmet layout (with-verb read (side-on b) x) σ ≡ some r
-    read-unmet-on b x k f m = read-unmet (holds-on b) x k (low-seen b low) f m
+    read-unmet-on b x z f m = read-unmet (holds-on b) x z (low-seen b low) f m
 
-    pub write-done-on : (b : Bool) (x : Action) {a : ℕ} {whole : Bool} {from to : ℕ} → CellsOf layout (with-verb write (side-on b) x) a whole from to →
-        (n : Known) → Wrote b whole a (s .known) n → {hs′ cs′ latest′ : List ℕ} → ChangedOn b from to (λ c. s .writes + 1) hs cs hs′ cs′ → Changed from to (λ c. s .writes + 1) latest latest′ →
+    pub write-done-on : (b : Bool) (x : Action) {a : ℕ} {whole : Bool} {k from to : ℕ} → CellsOf layout (with-verb write (side-on b) x) a whole k from to →
+        (n : Known) → Wrote b whole a (s .known) n → {hs′ cs′ latest′ : List ℕ} → ChangedOn b k from to (λ c. s .writes + 1) hs cs hs′ cs′ → Changed k from to (λ c. s .writes + 1) latest latest′ →
         ActsAs layout (with-verb write (side-on b) x) σ l hs cs latest (Done (record { flags = s .flags; «other_flags» = s .«other_flags»; reads = s .reads; writes = s .writes + 1; moved = s .moved; known = n })) hs′ cs′ latest′
-    write-done-on true x k n w {hs′} {cs′} {latest′} c d = acts-on layout (with-verb write card x) σ l hs cs latest true (Done (record { flags = s .flags; «other_flags» = s .«other_flags»; reads = s .reads; writes = s .writes + 1; moved = s .moved; known = n })) hs′ cs′ latest′ (c .others) (write-done (holds-on true) x k (turned n) (record { own = w .own; others = w .others }) (c .own) d)
-    write-done-on false x k n w {hs′} {cs′} {latest′} c d = acts-on layout (with-verb write host x) σ l hs cs latest false (Done (record { flags = s .flags; «other_flags» = s .«other_flags»; reads = s .reads; writes = s .writes + 1; moved = s .moved; known = n })) hs′ cs′ latest′ (c .others) (write-done h x k n w (c .own) d)
+    write-done-on true x z n w {hs′} {cs′} {latest′} c d = acts-on layout (with-verb write card x) σ l hs cs latest true (Done (record { flags = s .flags; «other_flags» = s .«other_flags»; reads = s .reads; writes = s .writes + 1; moved = s .moved; known = n })) hs′ cs′ latest′ (c .others) (write-done (holds-on true) x z (turned n) (record { own = w .own; others = w .others }) (c .own) d)
+    write-done-on false x z n w {hs′} {cs′} {latest′} c d = acts-on layout (with-verb write host x) σ l hs cs latest false (Done (record { flags = s .flags; «other_flags» = s .«other_flags»; reads = s .reads; writes = s .writes + 1; moved = s .moved; known = n })) hs′ cs′ latest′ (c .others) (write-done h x z n w (c .own) d)
 
-    pub copy-acts : (b : Bool) (x : Action) {a : ℕ} {whole : Bool} {from to : ℕ} → CellsOf layout (with-verb copy (side-on b) x) a whole from to →
-        {hs′ cs′ : List ℕ} (r : Acted) → MovesOn b a whole from to s hs cs latest r hs′ cs′ → ActsAs layout (with-verb copy (side-on b) x) σ l hs cs latest r hs′ cs′ latest
-    copy-acts b x {a} {whole} {from} {to} k {hs′} {cs′} r m = acts-on layout (with-verb copy (side-on b) x) σ l hs cs latest b r hs′ cs′ latest (m .others)
-        (copy-follows (holds-on b) x k (low-seen b low) (seen-as b r) (of-side b hs′ cs′) (moves-seen b a whole from to s (of-side b hs cs) (of-side b cs hs) latest (of-side b hs′ cs′) r (m .moves)))
+    pub copy-acts : (b : Bool) (x : Action) {a : ℕ} {whole : Bool} {k from to : ℕ} → CellsOf layout (with-verb copy (side-on b) x) a whole k from to →
+        {hs′ cs′ : List ℕ} (r : Acted) → MovesOn b a whole k from to s hs cs latest r hs′ cs′ → ActsAs layout (with-verb copy (side-on b) x) σ l hs cs latest r hs′ cs′ latest
+    copy-acts b x {a} {whole} {k} {from} {to} z {hs′} {cs′} r m = acts-on layout (with-verb copy (side-on b) x) σ l hs cs latest b r hs′ cs′ latest (m .others)
+        (copy-follows (holds-on b) x z (low-seen b low) (seen-as b r) (of-side b hs′ cs′) (moves-seen b a whole k from to s (of-side b hs cs) (of-side b cs hs) latest (of-side b hs′ cs′) r (m .moves)))
 
-    module _ (b : Bool) (x : Action) {a : ℕ} {whole : Bool} {from to : ℕ} (k : CellsOf layout (with-verb need (side-on b) x) a whole from to) where
+    module _ (b : Bool) (x : Action) {a : ℕ} {whole : Bool} {k from to : ℕ} (z : CellsOf layout (with-verb need (side-on b) x) a whole k from to) where
       pub need-idle-on : σ .flags a .flag (side-on b) ≡ true → ActsAs layout (with-verb need (side-on b) x) σ l hs cs latest (Done s) hs cs latest
-      need-idle-on e = acts-on layout (with-verb need (side-on b) x) σ l hs cs latest b (Done s) hs cs latest refl (need-idle (holds-on b) x k e)
+      need-idle-on e = acts-on layout (with-verb need (side-on b) x) σ l hs cs latest b (Done s) hs cs latest refl (need-idle (holds-on b) x z e)
 
-      pub need-acts : {hs′ cs′ : List ℕ} (r q : Acted) → σ .flags a .flag (side-on b) ≡ false → MovesOn b a whole from to s hs cs latest r hs′ cs′ → BothSetAs r a q →
+      pub need-acts : {hs′ cs′ : List ℕ} (r q : Acted) → σ .flags a .flag (side-on b) ≡ false → MovesOn b a whole k from to s hs cs latest r hs′ cs′ → BothSetAs r a q →
           ActsAs layout (with-verb need (side-on b) x) σ l hs cs latest q hs′ cs′ latest
       need-acts {hs′} {cs′} r q e m n = acts-on layout (with-verb need (side-on b) x) σ l hs cs latest b q hs′ cs′ latest (m .others)
-          (need-follows (holds-on b) x k (low-seen b low) e (seen-as b r) (seen-as b q) (of-side b hs′ cs′) (moves-seen b a whole from to s (of-side b hs cs) (of-side b cs hs) latest (of-side b hs′ cs′) r (m .moves)) (both-seen b a r q n))
+          (need-follows (holds-on b) x z (low-seen b low) e (seen-as b r) (seen-as b q) (of-side b hs′ cs′) (moves-seen b a whole k from to s (of-side b hs cs) (of-side b cs hs) latest (of-side b hs′ cs′) r (m .moves)) (both-seen b a r q n))
 
   -- a mark
   pub mark-card : (b : Bool) (x : Action) (s′ : Stored) → b ≡ true →
@@ -144,23 +144,23 @@ module _ {layout : Layout} {s : Stored} {hs cs latest : List ℕ} {σ : State} {
   mark-host true x s′ e f g i j m n = absurd (true≢false e)
 
 -- a copy to a side, unmet or done
-pub move-unmet : (b : Bool) (a : ℕ) (whole : Bool) (from to : ℕ) (s : Stored) (hs cs latest : List ℕ) {r : ℕ} → FirstStale (of-side (not b) hs cs) latest from to r → r < to → MovesOn b a whole from to s hs cs latest (Unmet (record { 0 = r })) hs cs
-move-unmet true a whole from to s hs cs latest f m = record { moves = (f, m, refl); others = refl }
-move-unmet false a whole from to s hs cs latest f m = record { moves = (f, m, refl); others = refl }
+pub move-unmet : (b : Bool) (a : ℕ) (whole : Bool) (k from to : ℕ) (s : Stored) (hs cs latest : List ℕ) {r : ℕ} → FirstStale (of-side (not b) hs cs) latest k from to r → r < to → MovesOn b a whole k from to s hs cs latest (Unmet (record { 0 = r })) hs cs
+move-unmet true a whole k from to s hs cs latest f m = record { moves = (f, m, refl); others = refl }
+move-unmet false a whole k from to s hs cs latest f m = record { moves = (f, m, refl); others = refl }
 
-pub move-done : (b : Bool) (a : ℕ) (whole : Bool) (from to : ℕ) (s : Stored) (n : Known) (hs cs latest hs′ cs′ : List ℕ) {r : ℕ} → Copied whole a (s .known) n → FirstStale (of-side (not b) hs cs) latest from to r → to ≤ r → ChangedOn b from to (λ c. getD (of-side b cs hs) c 0) hs cs hs′ cs′ →
-    MovesOn b a whole from to s hs cs latest (Done (record { flags = s .flags; «other_flags» = s .«other_flags»; reads = s .reads; writes = s .writes; moved = s .moved + (to - from); known = n })) hs′ cs′
-move-done true a whole from to s n hs cs latest hs′ cs′ k f m c = record { moves = (none-stale f m, c .own, refl, k); others = c .others }
-move-done false a whole from to s n hs cs latest hs′ cs′ k f m c = record { moves = (none-stale f m, c .own, refl, k); others = c .others }
+pub move-done : (b : Bool) (a : ℕ) (whole : Bool) (k from to : ℕ) (s : Stored) (n : Known) (many : ℕ) (hs cs latest hs′ cs′ : List ℕ) {r : ℕ} → many ≡ cells-between k from to → Copied whole a (s .known) n → FirstStale (of-side (not b) hs cs) latest k from to r → to ≤ r → ChangedOn b k from to (λ c. getD (of-side b cs hs) c 0) hs cs hs′ cs′ →
+    MovesOn b a whole k from to s hs cs latest (Done (record { flags = s .flags; «other_flags» = s .«other_flags»; reads = s .reads; writes = s .writes; moved = s .moved + many; known = n })) hs′ cs′
+move-done true a whole k from to s n many hs cs latest hs′ cs′ e w f m c = record { moves = (none-stale f m, c .own, rw e, w); others = c .others }
+move-done false a whole k from to s n many hs cs latest hs′ cs′ e w f m c = record { moves = (none-stale f m, c .own, rw e, w); others = c .others }
 
 -- a copy, done or unmet, leaves the cells past its own on both sides
-moves-own : (a : ℕ) (whole : Bool) (from to : ℕ) (s : Stored) (own others latest : List ℕ) (r : Acted) (own′ : List ℕ) → MovesCells a whole from to s own others latest r own′ → Same to own own′
-moves-own a whole from to s own others latest (Done s′) own′ m = changed-same (m .1)
-moves-own a whole from to s own others latest (Unmet c) own′ m = rw (m .2) (same-all to own)
+moves-own : (a : ℕ) (whole : Bool) (k from to : ℕ) (s : Stored) (own others latest : List ℕ) (r : Acted) (own′ : List ℕ) → MovesCells a whole k from to s own others latest r own′ → Same to own own′
+moves-own a whole k from to s own others latest (Done s′) own′ m = changed-same (m .1)
+moves-own a whole k from to s own others latest (Unmet c) own′ m = rw (m .2) (same-all to own)
 
-pub moves-same : (b : Bool) (a : ℕ) (whole : Bool) (from to : ℕ) (s : Stored) (hs cs latest : List ℕ) (r : Acted) (hs′ cs′ : List ℕ) → MovesOn b a whole from to s hs cs latest r hs′ cs′ → Same to hs hs′ × Same to cs cs′
-moves-same true a whole from to s hs cs latest r hs′ cs′ m = (rw (m .others) (same-all to hs), moves-own a whole from to s cs hs latest r cs′ (m .moves))
-moves-same false a whole from to s hs cs latest r hs′ cs′ m = (moves-own a whole from to s hs cs latest r hs′ (m .moves), rw (m .others) (same-all to cs))
+pub moves-same : (b : Bool) (a : ℕ) (whole : Bool) (k from to : ℕ) (s : Stored) (hs cs latest : List ℕ) (r : Acted) (hs′ cs′ : List ℕ) → MovesOn b a whole k from to s hs cs latest r hs′ cs′ → Same to hs hs′ × Same to cs cs′
+moves-same true a whole k from to s hs cs latest r hs′ cs′ m = (rw (m .others) (same-all to hs), moves-own a whole k from to s cs hs latest r cs′ (m .moves))
+moves-same false a whole k from to s hs cs latest r hs′ cs′ m = (moves-own a whole k from to s hs cs latest r hs′ (m .moves), rw (m .others) (same-all to cs))
 
 -- a record's side
 side-same : (n : ℕ) (b : Bool) → eqb n 0 ≡ b → side-on (not b) ≡ side-of n
@@ -170,8 +170,8 @@ side-same n false e = rw e refl
 carry : (P : Side → Type 0) {t u : Side} → t ≡ u → P t → P u
 carry P e p = rw e at p
 
--- what a record with the fields x, whose cells are `from` up to `to`, does
-module _ (x : Fields) (whole : Bool) (from to : ℕ) (s : Stored) (hs cs latest : List ℕ) (r : Acted) where
+-- what a record with the fields x, whose cells are `from` up to `to` at step k, does
+module _ (x : Fields) (whole : Bool) (k from to : ℕ) (s : Stored) (hs cs latest : List ℕ) (r : Acted) where
   abbrev on : Bool
   on = not (eqb (x .side) 0)
 
@@ -180,27 +180,27 @@ module _ (x : Fields) (whole : Bool) (from to : ℕ) (s : Stored) (hs cs latest 
   named = acting read x
 
   abbrev As : List ℕ → List ℕ → List ℕ → Action → Type 0
-  As hs′ cs′ latest′ y = (layout : Layout) → CellsAt layout y from to → (whole ≡ true → ArrayAt layout (x .array) from to) → Acts layout y s hs cs latest r hs′ cs′ latest′
+  As hs′ cs′ latest′ y = (layout : Layout) → CellsAt layout y k from to → (whole ≡ true → ArrayAt layout (x .array) k from to) → Acts layout y s hs cs latest r hs′ cs′ latest′
 
   same : side-on on ≡ side-of (x .side)
   same = side-same (x .side) (eqb (x .side) 0) refl
 
   -- of any verb, seen from its side
   by-verb : (v : Verb) (hs′ cs′ latest′ : List ℕ) →
-      ((layout : Layout) → CellsOf layout (with-verb v (side-on on) named) (x .array) whole from to → Acts layout (with-verb v (side-on on) named) s hs cs latest r hs′ cs′ latest′) →
+      ((layout : Layout) → CellsOf layout (with-verb v (side-on on) named) (x .array) whole k from to → Acts layout (with-verb v (side-on on) named) s hs cs latest r hs′ cs′ latest′) →
       As hs′ cs′ latest′ (acting v x)
-  by-verb v hs′ cs′ latest′ p = carry (λ t. As hs′ cs′ latest′ (with-verb v t named)) same (λ layout k w. p layout (record { range = k; array = refl; all = w }))
+  by-verb v hs′ cs′ latest′ p = carry (λ t. As hs′ cs′ latest′ (with-verb v t named)) same (λ layout z w. p layout (record { range = z; array = refl; all = w }))
 
   pub here-read : x .kind ≡ 1 →
-      ((layout : Layout) (z : Action) → CellsAt layout (with-verb read (side-on on) z) from to → Acts layout (with-verb read (side-on on) z) s hs cs latest r hs cs latest) →
+      ((layout : Layout) (z : Action) → CellsAt layout (with-verb read (side-on on) z) k from to → Acts layout (with-verb read (side-on on) z) s hs cs latest r hs cs latest) →
       As hs cs latest (action-of x)
   here-read e p =
       by-kind x (omega arith, omega arith) (As hs cs latest)
-      (λ _. by-verb read hs cs latest (λ layout k. p layout named (k .range)))
+      (λ _. by-verb read hs cs latest (λ layout z. p layout named (z .range)))
       (λ z. absurd (omega arith)) (λ z. absurd (omega arith)) (λ z. absurd (omega arith)) (λ z. absurd (omega arith))
 
   pub here-write : x .kind ≡ 2 → (hs′ cs′ latest′ : List ℕ) →
-      ((layout : Layout) (z : Action) → CellsOf layout (with-verb write (side-on on) z) (x .array) whole from to → Acts layout (with-verb write (side-on on) z) s hs cs latest r hs′ cs′ latest′) →
+      ((layout : Layout) (z : Action) → CellsOf layout (with-verb write (side-on on) z) (x .array) whole k from to → Acts layout (with-verb write (side-on on) z) s hs cs latest r hs′ cs′ latest′) →
       As hs′ cs′ latest′ (action-of x)
   here-write e hs′ cs′ latest′ p =
       by-kind x (omega arith, omega arith) (As hs′ cs′ latest′) (λ z. absurd (omega arith))
@@ -208,8 +208,8 @@ module _ (x : Fields) (whole : Bool) (from to : ℕ) (s : Stored) (hs cs latest 
       (λ z. absurd (omega arith)) (λ z. absurd (omega arith)) (λ z. absurd (omega arith))
 
   pub here-move : (1 ≤ x .kind) × (x .kind ≤ 5) → (x .kind ≡ 1 → ⊥) → (x .kind ≡ 2 → ⊥) → (x .kind ≡ 5 → ⊥) → (hs′ cs′ : List ℕ) →
-      (eqb (x .kind) 4 ≡ false → (layout : Layout) (z : Action) → CellsOf layout (with-verb copy (side-on on) z) (x .array) whole from to → Acts layout (with-verb copy (side-on on) z) s hs cs latest r hs′ cs′ latest) →
-      (eqb (x .kind) 4 ≡ true → (layout : Layout) (z : Action) → CellsOf layout (with-verb need (side-on on) z) (x .array) whole from to → Acts layout (with-verb need (side-on on) z) s hs cs latest r hs′ cs′ latest) →
+      (eqb (x .kind) 4 ≡ false → (layout : Layout) (z : Action) → CellsOf layout (with-verb copy (side-on on) z) (x .array) whole k from to → Acts layout (with-verb copy (side-on on) z) s hs cs latest r hs′ cs′ latest) →
+      (eqb (x .kind) 4 ≡ true → (layout : Layout) (z : Action) → CellsOf layout (with-verb need (side-on on) z) (x .array) whole k from to → Acts layout (with-verb need (side-on on) z) s hs cs latest r hs′ cs′ latest) →
       As hs′ cs′ latest (action-of x)
   here-move b n1 n2 n5 hs′ cs′ m p =
       by-kind x b (As hs′ cs′ latest) (λ z. absurd (n1 z)) (λ z. absurd (n2 z))
@@ -223,4 +223,4 @@ module _ (x : Fields) (whole : Bool) (from to : ℕ) (s : Stored) (hs cs latest 
   here-mark e p =
       by-kind x (omega arith, omega arith) (As hs cs latest)
       (λ z. absurd (omega arith)) (λ z. absurd (omega arith)) (λ z. absurd (omega arith)) (λ z. absurd (omega arith))
-      (λ _. by-verb mark hs cs latest (λ layout k. p layout named hs cs latest refl (k .range .one)))
+      (λ _. by-verb mark hs cs latest (λ layout z. p layout named hs cs latest refl (z .range .one)))

@@ -1,4 +1,5 @@
--- The expansion of a file that opens as a declared plan is within the bounds of a plain plan, where it has at most 1,024 records.
+-- The expansion of a file that opens as a declared plan has a file that opens too, where it has at most 1,024 records: the fields of each
+-- of its records fit.
 use mathlib.Core.Path.{_≡_, refl, sym, ap, _∙_}
 use mathlib.Core.Bool.{Bool, true, false, _&&_}
 use mathlib.Core.List.{List, [], _∷_, _++_}
@@ -9,8 +10,8 @@ use lib.Dec.{ltb, leb, eqb}
 use lib.ListN.{length, getD}
 use borrow.Author.Tests.{ltb-true, ltb-false, le-leb}
 use Rattle.model.specs.declared.Verdict.the-variants.{Accepted}
-use Rattle.model.specs.Sides.{side-number, span-of}
-use Rattle.model.specs.Records.{Verb, read, write, copy, need, mark, Action}
+use Rattle.model.specs.Sides.{Side, host, card, side-number, Layout, span-of}
+use Rattle.model.specs.Records.{Verb, read, write, copy, need, mark, Action, whole-of}
 use Rattle.model.specs.Blocks.{Block, size, largest}
 use Rattle.model.specs.Judging.{Declaration, Pass, pass-of}
 use Rattle.model.specs.Inner.Declared.{no-pass}
@@ -21,10 +22,9 @@ use Rattle.reading.specs.declared.Fields.{Fields}
 use Rattle.reading.specs.Bytes.{is-declared, array-count, body-count, table, length-at, layout-of, records-in, declarations-in, first-record, fields-at, between, lengths-of, nests, turns-of}
 use Rattle.rules.specs.Rules.{fields-fit, deepest}
 use Rattle.format.specs.Opening.{opening}
-use Rattle.format.specs.Plans.{action-of, declaration-of, pass-at, declared-plan-of}
+use Rattle.format.specs.Plans.{action-of, declaration-of, pass-at, plan-of, declared-plan-of}
 use Rattle.files.specs.Files.{action-fields}
-use Rattle.files.specs.Bounds.{all-pass, arrays-fit, action-fits, plain-fits}
-use Rattle.files.specs.Inner.Short.{block-fits}
+use Rattle.files.specs.Bounds.{all-pass, arrays-fit, nested-within, numbered-plan}
 use Rattle.format.specs.Inner.Walks.{Good, block-between, body0-between}
 use Rattle.reading.proofs.Ranges.{in-range}
 use Rattle.reading.proofs.Tables.{length-table, arrays-counted, array-length, next-record}
@@ -33,7 +33,8 @@ use Rattle.rules.proofs.Fields.{fit-declaration}
 use Rattle.rules.proofs.Rules.{Tests}
 use Rattle.format.proofs.Walking.{Facts, opened-facts, good-parts}
 use Rattle.format.proofs.Trees.{shape, is-branch, is-loop, is-fixed, is-leaf, acts, block-none, block-branch, block-loop, block-fixed, block-act, body0-none, body0-branch, body0-loop, body0-fixed, body0-call, walk-of, body0-good, body0-body, pass-kind, pass-good, pass-declaration, pass-body}
-use Rattle.files.specs.Expansions.{expansion-of}
+use Rattle.files.specs.Expansions.{expansion-of, expansion-file}
+use Rattle.files.proofs.RoundTrip.{plain-layout, plain-opens}
 use Rattle.sizes.proofs.Fields.{action-again}
 use Rattle.sizes.proofs.Walks.{second, next}
 use Rattle.circle.proofs.Levels.{more-levels, branch-fits, loop-fits, fixed-fits, then-fits, declared-fits, numbered-fits}
@@ -55,47 +56,59 @@ all-called test e [] i h = e
 all-called test e (p ∷ ps) zero h = and-out (test p) (all-pass test ps) h .0
 all-called test e (p ∷ ps) (suc i) h = all-called test e ps i (and-out (test p) (all-pass test ps) h .1)
 
--- a record whose fields fit, as an action and as a declaration
+-- whether the fields of an action fit a file
+abbrev fits-in : List ℕ → Action → Bool
+fits-in f x = fields-fit f (action-fields x)
+
+-- what a declaration gives, and a record whose fields fit, as an action and as a declaration
 module _ (f : List ℕ) where
-  -- what kinds 1 to 5 and 16 to 18 have in common
-  on-array : (side a : ℕ) (x y z : Bool) → (ltb side 2 && ltb a (array-count f) && x && y && z) ≡ true → (ltb a (length (lengths-of f)) ≡ true) × (y ≡ true) × (z ≡ true)
-  on-array side a x y z e =
-      let w₁ = and-out (ltb side 2 && ltb a (array-count f) && x && y) z e in
-      let w₂ = and-out (ltb side 2 && ltb a (array-count f) && x) y (w₁ .0) in
-      let w₃ = and-out (ltb side 2 && ltb a (array-count f)) x (w₂ .0) in
-      (rw (arrays-counted f) (and-out (ltb side 2) (ltb a (array-count f)) (w₃ .0) .1), w₂ .1, w₁ .1)
-
-  length-is : (a : ℕ) → ltb a (length (lengths-of f)) ≡ true → span-of (layout-of f) a .length ≡ length-at f a
-  length-is a h = array-length f a (rw (arrays-counted f) at (ltb-true a (length (lengths-of f)) h))
-
-  fields-action : (x : Action) → fields-fit f (action-fields x) ≡ true → action-fits (layout-of f) x ≡ true
+  whole-fits : (s : Side) (a : ℕ) → ltb a (array-count f) ≡ true → (fits-in f (whole-of need s a) ≡ true) × (fits-in f (whole-of mark s a) ≡ true)
   unfolding fields-fit
-  fields-action x e = go (x .verb) e
+  whole-fits host a e = (rw e, rw e)
+  whole-fits card a e = (rw e, rw e)
+
+  module _ (x : Fields) (fits : fields-fit f x ≡ true) where
+    action-fit : 1 ≤ x .kind → x .kind ≤ 5 → fits-in f (action-of x) ≡ true
+    action-fit h k = rw (action-again f x fits h k) fits
+
+    declaration-fit : 16 ≤ x .kind → x .kind ≤ 18 → ltb (declaration-of x .array) (array-count f) ≡ true
+    unfolding declaration-of
+    declaration-fit h k =
+        let on-array = ltb (x .side) 2 && ltb (x .array) (array-count f) in
+        let w₁ = and-out (on-array && eqb (x .step) 0 && eqb (x .p) 0) _ (fit-declaration f x _ _ _ (record { arrays-are = refl; bodies-are = refl; size-is = refl }) h k ∙ fits) in
+        let w₂ = and-out (on-array && eqb (x .step) 0) _ (w₁ .0) in
+        and-out (ltb (x .side) 2) _ (and-out on-array _ (w₂ .0) .0) .1
+
+-- what fits a file fits another of the same arrays
+module _ (f g : List ℕ) (same : layout-of g ≡ layout-of f) where
+  counted : array-count g ≡ array-count f
+  counted = sym (arrays-counted g) ∙ ap (λ (l : Layout). length (l .lengths)) same ∙ arrays-counted f
+
+  measured : (a : ℕ) → a < array-count f → length-at g a ≡ length-at f a
+  measured a h = sym (array-length g a (rw counted h)) ∙ ap (λ (l : Layout). span-of l a .length) same ∙ array-length f a h
+
+  fits-too : (x : Action) → fits-in f x ≡ true → fits-in g x ≡ true
+  unfolding fields-fit
+  fits-too x e = go (x .verb) e
     where
-      ranged : (ltb (side-number (x .side)) 2 && ltb (x .name) (array-count f) && true && ltb (x .p) (x .q) && leb (x .q) (length-at f (x .name))) ≡ true →
-          (ltb (x .name) (length (lengths-of f)) && (ltb (x .p) (x .q) && leb (x .q) (span-of (layout-of f) (x .name) .length))) ≡ true
-      ranged u = let w = on-array (side-number (x .side)) (x .name) true (ltb (x .p) (x .q)) _ u in rw (length-is (x .name) (w .0), w .0, w .1, w .2)
+      ranged : (ltb (side-number (x .side)) 2 && ltb (x .name) (array-count f) && ltb (x .p) (x .q) && leb (x .q) (length-at f (x .name))) ≡ true →
+          (ltb (side-number (x .side)) 2 && ltb (x .name) (array-count g) && ltb (x .p) (x .q) && leb (x .q) (length-at g (x .name))) ≡ true
+      ranged u =
+          let on-array = ltb (side-number (x .side)) 2 && ltb (x .name) (array-count f) in
+          let w₁ = and-out (on-array && ltb (x .p) (x .q)) _ u in
+          let w₂ = and-out (ltb (side-number (x .side)) 2) _ (and-out on-array _ (w₁ .0) .0) in
+          rw (counted, measured (x .name) (ltb-true _ _ (w₂ .1))) u
 
-      unused : (ltb (side-number (x .side)) 2 && ltb (x .name) (array-count f) && true && eqb (x .p) 0 && eqb (x .q) 0) ≡ true →
-          (ltb (x .name) (length (lengths-of f)) && (eqb (x .p) 0 && eqb (x .q) 0)) ≡ true
-      unused u = let w = on-array (side-number (x .side)) (x .name) true (eqb (x .p) 0) _ u in rw (w .0, w .1, w .2)
+      unused : (ltb (side-number (x .side)) 2 && ltb (x .name) (array-count f) && eqb (x .step) 0 && eqb (x .p) 0 && eqb (x .q) 0) ≡ true →
+          (ltb (side-number (x .side)) 2 && ltb (x .name) (array-count g) && eqb (x .step) 0 && eqb (x .p) 0 && eqb (x .q) 0) ≡ true
+      unused u = rw counted u
 
-      go : (v : Verb) → fields-fit f (action-fields (as-verb v x)) ≡ true → action-fits (layout-of f) (as-verb v x) ≡ true
+      go : (v : Verb) → fits-in f (as-verb v x) ≡ true → fits-in g (as-verb v x) ≡ true
       go read u = ranged u
       go write u = ranged u
       go copy u = ranged u
       go need u = unused u
       go mark u = unused u
-
-  module _ (x : Fields) (fits : fields-fit f x ≡ true) where
-    action-fit : 1 ≤ x .kind → x .kind ≤ 5 → action-fits (layout-of f) (action-of x) ≡ true
-    action-fit h k = fields-action (action-of x) (rw (action-again f x fits h k) fits)
-
-    declaration-fit : 16 ≤ x .kind → x .kind ≤ 18 → ltb (declaration-of x .array) (length (lengths-of f)) ≡ true
-    unfolding declaration-of
-    declaration-fit h k =
-        on-array (x .side) (x .array) (eqb (x .zero) 0) (eqb (x .p) 0) (eqb (x .q) 0)
-        (fit-declaration f x _ _ _ (record { arrays-are = refl; bodies-are = refl; size-is = refl }) h k ∙ fits) .0
 
 -- the blocks made of the records of body b of a declared plan, from record `low` on, record by record; `most` levels are allowed in all
 module _ (f : List ℕ) (declared : is-declared f ≡ true) (b low most : ℕ) (enough : 8 ≤ most) (block : ℕ → ℕ → Block Action) where
@@ -108,7 +121,7 @@ module _ (f : List ℕ) (declared : is-declared f ≡ true) (b low most : ℕ) (
     fixed : (depth around r end : ℕ) → r < end → Good f b depth around r end → fields-at f r .kind ≡ 9
         → (n : ℕ) × (q : ℕ) × (block r end ≡ Block.fixed n q (block (r + 1) (second f r)) (block (next f r) end))
     other : (levels depth around r end : ℕ) → depth + levels ≡ most → depth ≤ 8 → low ≤ r → r < end → Good f b depth around r end → nests (fields-at f r) ≡ false
-        → block-fits (layout-of f) levels (block (next f r) end) ≡ true → block-fits (layout-of f) levels (block r end) ≡ true
+        → nested-within (fits-in f) levels (block (next f r) end) ≡ true → nested-within (fits-in f) levels (block r end) ≡ true
 
   -- "in a body of a declared plan inside at most 7"
   shallow : (depth around r end : ℕ) → Tests f b depth around r end → nests (fields-at f r) ≡ true → depth < 8
@@ -116,7 +129,7 @@ module _ (f : List ℕ) (declared : is-declared f ≡ true) (b low most : ℕ) (
   shallow depth around r end t k = let l : depth ≤ 7 = ltb-false 7 depth (rw (k, not-plain f declared) at (t .shallow)) in omega arith
 
   module _ (parted : Parted) where
-    parts-fit : (fuel levels depth around r end : ℕ) → end ≤ r + fuel → depth + levels ≡ most → depth ≤ 8 → low ≤ r → Good f b depth around r end → block-fits (layout-of f) levels (block r end) ≡ true
+    parts-fit : (fuel levels depth around r end : ℕ) → end ≤ r + fuel → depth + levels ≡ most → depth ≤ 8 → low ≤ r → Good f b depth around r end → nested-within (fits-in f) levels (block r end) ≡ true
     parts-fit zero levels depth around r end n d e l g = rw (parted .none r end (omega arith))
     parts-fit (suc fuel) levels depth around r end n d e l g = elim (decLt r end) [
       | no m ↦ rw (parted .none r end (omega arith))
@@ -128,23 +141,23 @@ module _ (f : List ℕ) (declared : is-declared f ≡ true) (b low most : ℕ) (
           elim (shape (fields-at f r)) [
             | is-branch k ↦
                 let s = shallow depth around r end (p .tests) (rw k) in
-                branch-fits (layout-of f) most depth (omega arith) (parted .branch depth around r end m g k .1) levels d
+                branch-fits (fits-in f) most depth (omega arith) (parted .branch depth around r end m g k .1) levels d
                 (λ q u. parts-fit fuel q (depth + 1) within (r + 1) (second f r) (omega arith) u (omega arith) (omega arith) (p .one))
                 (λ q u. parts-fit fuel q (depth + 1) within (second f r) (next f r) (omega arith) u (omega arith) (omega arith) (p .two)) rest
             | is-loop k ↦
                 let s = shallow depth around r end (p .tests) (rw k) in
-                loop-fits (layout-of f) most depth (omega arith) (parted .loop depth around r end m g k .1) levels d
+                loop-fits (fits-in f) most depth (omega arith) (parted .loop depth around r end m g k .1) levels d
                 (λ q u. parts-fit fuel q (depth + 1) within (r + 1) (second f r) (omega arith) u (omega arith) (omega arith) (p .one)) rest
             | is-fixed k ↦
                 let s = shallow depth around r end (p .tests) (rw k) in
-                fixed-fits (layout-of f) most depth (omega arith) (parted .fixed depth around r end m g k .2) levels d
+                fixed-fits (fits-in f) most depth (omega arith) (parted .fixed depth around r end m g k .2) levels d
                 (λ q u. parts-fit fuel q (depth + 1) within (r + 1) (second f r) (omega arith) u (omega arith) (omega arith) (p .one)) rest
             | is-leaf k ↦ parted .other levels depth around r end d e l m g k rest
           ]
     ]
 
     -- the records of a good block that stands inside no other
-    body-fits : (r end : ℕ) → low ≤ r → Good f b 0 1 r end → block-fits (layout-of f) most (block r end) ≡ true
+    body-fits : (r end : ℕ) → low ≤ r → Good f b 0 1 r end → nested-within (fits-in f) most (block r end) ≡ true
     body-fits r end l g = parts-fit end most 0 1 r end (omega arith) (omega arith) (omega arith) l g
 
 -- a file that opens as a declared plan
@@ -158,7 +171,7 @@ module _ (f : List ℕ) (w : Facts f) (declared : is-declared f ≡ true) where
 
   -- a pass whose declarations are of the plan's arrays and whose other records fit 8 levels
   abbrev called-fits : Pass → Bool
-  called-fits p = all-pass (λ (d : Declaration). ltb (d .array) (length (lengths-of f))) (p .declarations) && block-fits (layout-of f) 8 (p .body)
+  called-fits p = all-pass (λ (d : Declaration). ltb (d .array) (array-count f)) (p .declarations) && nested-within (fits-in f) 8 (p .body)
 
   module _ (b : ℕ) (p : 1 ≤ b) (l : b < body-count f) where
     abbrev until : ℕ
@@ -176,14 +189,14 @@ module _ (f : List ℕ) (w : Facts f) (declared : is-declared f ≡ true) where
           rw (block-act f r end m (walk-of g) (fields-at f r) refl k) (and-in _ _ (action-fit f (fields-at f r) (t .fits) (kinds .0) (kinds .1)) rest);
     }
 
-    declarations-fit : all-pass (λ (d : Declaration). ltb (d .array) (length (lengths-of f))) (pass-at f b .declarations) ≡ true
+    declarations-fit : all-pass (λ (d : Declaration). ltb (d .array) (array-count f)) (pass-at f b .declarations) ≡ true
     unfolding pass-at
     declarations-fit = all-table _ _ (declarations-in f b) λ i h.
         let g = pass-good f w declared b p l i (omega arith) in
         let d = pass-declaration f w declared b p l i h in
         declaration-fit f (fields-at f (first-record f b + i)) (good-parts f b 0 1 _ _ (omega (arith, w .bounds .declared b l, next-record f b l)) g .tests .fits) (d .0) (d .1)
 
-    others-fit : block-fits (layout-of f) 8 (pass-at f b .body) ≡ true
+    others-fit : nested-within (fits-in f) 8 (pass-at f b .body) ≡ true
     others-fit = rw (pass-body f w declared b p l) (body-fits f declared b until 8 (omega arith) (block-between f) pass-parted until _ (omega arith) (rw (next-record f b l) at (pass-good f w declared b p l (declarations-in f b) (omega arith))))
 
     pass-fits : called-fits (pass-at f b) ≡ true
@@ -205,18 +218,20 @@ module _ (f : List ℕ) (w : Facts f) (declared : is-declared f ≡ true) where
     fixed = λ depth around r end m g k. (r, fields-at f r .q - 1, ap (expand passes) (body0-fixed f r end m (walk-of g) (fields-at f r) refl k));
     other = λ levels depth around r end d e h m g k rest.
         let called = pass-of passes (fields-at f r .p) in
-        let fit = and-out (all-pass (λ (c : Declaration). ltb (c .array) (length (lengths-of f))) (called .declarations)) (block-fits (layout-of f) 8 (called .body)) (all-called called-fits refl passes (fields-at f r .p - 1) passes-fit) in
+        let fit = and-out (all-pass (λ (c : Declaration). ltb (c .array) (array-count f)) (called .declarations)) (nested-within (fits-in f) 8 (called .body)) (all-called called-fits refl passes (fields-at f r .p - 1) passes-fit) in
         rw (ap (expand passes) (body0-call f r end m (walk-of g) (fields-at f r) refl k))
-        (declared-fits (layout-of f) (called .declarations) _ levels (fit .0) (then-fits (layout-of f) (called .body) _ levels (more-levels (layout-of f) (called .body) 8 levels (omega arith) (fit .1)) rest));
+        (declared-fits (fits-in f) (array-count f) (whole-fits f) (called .declarations) _ levels (fit .0) (then-fits (fits-in f) (called .body) _ levels (more-levels (fits-in f) (called .body) 8 levels (omega arith) (fit .1)) rest));
   }
 
-  block-within : block-fits (layout-of f) 16 (expansion-of f .body) ≡ true
+  block-within : nested-within (fits-in f) 16 (expansion-of f .body) ≡ true
   block-within =
-      numbered-fits (layout-of f) 0 (expand passes (declared-plan-of f .body0)) 16
+      numbered-fits (fits-in f) 0 (expand passes (declared-plan-of f .body0)) 16
       ∙ rw (body0-body f w) (body-fits f declared 0 0 16 (omega arith) (λ r end. expand passes (body0-between f r end)) body0-parted 0 (records-in f 0) (omega arith) (body0-good f w))
 
-pub expansion-fits : (f : List ℕ) → opening f ≡ Accepted → is-declared f ≡ true → size (expansion-of f .body) ≤ 1024 → largest (expansion-of f .body) ≤ 4096 → plain-fits (expansion-of f) ≡ true
+-- the expansion's file opens, and is the expansion, numbered as the file numbers it
+pub expansion-read : (f : List ℕ) → opening f ≡ Accepted → is-declared f ≡ true → size (expansion-of f .body) ≤ 1024 → largest (expansion-of f .body) ≤ 4096
+    → (opening (expansion-file f) ≡ Accepted) × (plan-of (expansion-file f) ≡ numbered-plan (expansion-of f))
 unfolding declared-plan-of
-expansion-fits f e declared few low =
+expansion-read f e declared few low =
     let w = opened-facts f (sym e) in
-    and-in _ _ (arrays-within f w declared) (and-in _ _ (block-within f w declared) (and-in _ _ (le-leb _ _ low) (le-leb _ _ few)))
+    plain-opens (expansion-of f) (fits-in f) (fits-too f (expansion-file f) (plain-layout (expansion-of f))) (arrays-within f w declared) (block-within f w declared) low few

@@ -10,12 +10,12 @@ use Rattle.reading.specs.Bytes.{is-plain}
 use Rattle.format.specs.Opening.{opening}
 use Rattle.format.specs.Plans.{plan-of, declared-plan-of}
 use Rattle.files.specs.Bounds.{numbered-plan}
-use Rattle.files.proofs.RoundTrip.{plain-is-plain, plain-round-trip}
+use Rattle.files.proofs.RoundTrip.{plain-is-plain}
 use Rattle.judge.specs.Judged.{judged}
 use Rattle.files.specs.Expansions.{expansion-of, expansion-file}
 use Rattle.expand.proofs.Laws.Answers.{accepted-file}
 use Rattle.circle.proofs.Levels.{numbered-again}
-use Rattle.circle.proofs.Fits.{expansion-fits}
+use Rattle.circle.proofs.Fits.{expansion-read}
 
 -- the expansion is numbered as its file numbers it
 numbered-so : (f : List ℕ) → numbered-plan (expansion-of f) ≡ expansion-of f
@@ -25,5 +25,5 @@ pub expansion-opens : (f : List ℕ) → judged f ≡ Accepted → size (expansi
     → (opening (expansion-file f) ≡ Accepted) × (is-plain (expansion-file f) ≡ true) × (plan-of (expansion-file f) ≡ expansion-of f)
 expansion-opens f e few low =
     let file = accepted-file f (sym e) in
-    let trip = plain-round-trip (expansion-of f) (expansion-fits f (sym (file .opened)) (file .declared) few low) in
+    let trip = expansion-read f (sym (file .opened)) (file .declared) few low in
     (trip .0, plain-is-plain (expansion-of f), trip .1 ∙ numbered-so f)

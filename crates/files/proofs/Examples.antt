@@ -24,7 +24,7 @@ bytes : List ℕ
 bytes = 0x02 ∷ 0x01 ∷ 0x01 ∷ 0x00 ∷ 0x01 ∷ 0x00 ∷ 0x01 ∷ 0x00 ∷ 0x00 ∷ 0x00 ∷ 0x01 ∷ 0x01 ∷ 0x00 ∷ 0x00 ∷ 0x00 ∷ 0x00 ∷ 0x01 ∷ 0x00 ∷ 0x09 ∷ 0x3B ∷ []
 
 plan : Plan
-plan = record { layout = record { lengths = 1 ∷ [] }; body = Block.act 0 (record { verb = read; side = card; name = 0; p = 0; q = 1 }) Block.done }
+plan = record { layout = record { lengths = 1 ∷ [] }; body = Block.act 0 (record { verb = read; side = card; name = 0; step = 0; p = 0; q = 1 }) Block.done }
 
 opens : opening bytes ≡ Accepted
 unfolding bytes answer-of all-rows u16-at length-at table lengths-of entry-at sizes-of fields-at sum-before plain-sum weighted-sum header-fits header-rows array-rows entry-rows contents-rows checks-fit tail-rows fields-fit allowed first-arm second-arm turns-of deepest record-rows block-rows body-rows front-rows open-rows opening
@@ -50,7 +50,7 @@ filling n c d =
 fill : Plan
 fill = record {
   layout = record { lengths = 1 ∷ [] };
-  body = Block.fixed 0 63 (Block.fixed 1 63 (Block.act 2 (record { verb = write; side = host; name = 0; p = 0; q = 1 }) Block.done) Block.done) Block.done;
+  body = Block.fixed 0 63 (Block.fixed 1 63 (Block.act 2 (record { verb = write; side = host; name = 0; step = 0; p = 0; q = 1 }) Block.done) Block.done) Block.done;
 }
 
 -- 64 × 64 is 4,096

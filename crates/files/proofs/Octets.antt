@@ -48,12 +48,12 @@ record Small (x : Fields) : Type 0 where
   kind : x .kind < 256
   side : x .side < 256
   array : x .array < 256
-  last : x .zero < 256
+  step : x .step < 256
   p : x .p < 65536
   q : x .q < 65536
 
 record-fits : (x : Fields) → Small x → Bytes (record-bytes x)
-record-fits x h = (h .kind, (h .side, (h .array, (h .last, bytes-append (u16-bytes (x .p)) (u16-bytes (x .q)) (u16-fits (x .p) (h .p)) (u16-fits (x .q) (h .q))))))
+record-fits x h = (h .kind, (h .side, (h .array, (h .step, bytes-append (u16-bytes (x .p)) (u16-bytes (x .q)) (u16-fits (x .p) (h .p)) (u16-fits (x .q) (h .q))))))
 
 -- a body that its entry can tell of
 record Told (b : Body) : Type 0 where
@@ -108,15 +108,19 @@ lengths-small [] h = tt
 lengths-small (n ∷ l) h = (omega arith, lengths-small l (omega arith))
 
 small : (kind side array p q : ℕ) → kind < 256 → side < 256 → array < 256 → p < 65536 → q < 65536 → Small (fields kind side array p q)
-small kind side array p q h0 h1 h2 h3 h4 = record { kind = h0; side = h1; array = h2; last = omega arith; p = h3; q = h4 }
+small kind side array p q h0 h1 h2 h3 h4 = record { kind = h0; side = h1; array = h2; step = omega arith; p = h3; q = h4 }
 
--- P and Q, of the whole array or not
-cells-small : (w : Bool) (p q n : ℕ) → n ≤ 4096 → cond w (eqb p 0 && eqb q 0) (ltb p q && leb q n) ≡ true → (p < 65536) × (q < 65536)
-cells-small true p q n h e = let k = and-out (eqb p 0) (eqb q 0) e in (omega (arith, eqb-true p 0 (k .0)), omega (arith, eqb-true q 0 (k .1)))
-cells-small false p q n h e =
-    let k = and-out (ltb p q) (leb q n) e in
-    let below = leb-true q n (k .1) in
-    (omega (arith, ltb-true p q (k .0)), omega arith)
+-- step, P and Q, of the whole array or not
+cells-small : (w : Bool) (k p q n : ℕ) → n ≤ 4096 → cond w (eqb k 0 && (eqb p 0 && eqb q 0)) (ltb k 256 && (ltb p q && leb q n)) ≡ true → (k < 256) × (p < 65536) × (q < 65536)
+cells-small true k p q n h e =
+    let (none, e′) = and-out (eqb k 0) (eqb p 0 && eqb q 0) e in
+    let (p-none, q-none) = and-out (eqb p 0) (eqb q 0) e′ in
+    (omega (arith, eqb-true k 0 none), omega (arith, eqb-true p 0 p-none), omega (arith, eqb-true q 0 q-none))
+cells-small false k p q n h e =
+    let (byte, e′) = and-out (ltb k 256) (ltb p q && leb q n) e in
+    let (order, within) = and-out (ltb p q) (leb q n) e′ in
+    let below = leb-true q n within in
+    (ltb-true k 256 byte, omega (arith, ltb-true p q order), omega arith)
 
 -- the records of a block whose leaves are small
 small-of : {A : Type 0} (leaf : A → Fields) (fits : A → Bool) → ((x : A) → fits x ≡ true → Small (leaf x)) →
@@ -159,14 +163,12 @@ small-of leaf fits one (Block.fixed _ n x t) (suc levels) e q h =
     )
 
 module _ (layout : Layout) (few : length (layout .lengths) ≤ 32) (total : cell-count layout ≤ 4096) where
-  array-small : (kind : ℕ) (s : Side) (a p q : ℕ) → kind < 256 → ltb a (length (layout .lengths)) ≡ true → p < 65536 → q < 65536 → Small (fields kind (side-number s) a p q)
-  array-small kind s a p q k e = let h : a < length (layout .lengths) = ltb-true _ _ e in small kind (side-number s) a p q k (side-small s) (omega arith)
-
   action-small : (x : Action) → action-fits layout x ≡ true → Small (action-fields x)
   action-small x e =
       let h = and-out (ltb (x .name) (length (layout .lengths))) (cells-fit layout x) e in
-      let c = cells-small (whole (x .verb)) (x .p) (x .q) (span-of layout (x .name) .length) (omega (arith, length-small layout (x .name))) (h .1) in
-      array-small (kind (x .verb)) (x .side) (x .name) (x .p) (x .q) (kind-small (x .verb)) (h .0) (c .0) (c .1)
+      let c = cells-small (whole (x .verb)) (x .step) (x .p) (x .q) (span-of layout (x .name) .length) (omega (arith, length-small layout (x .name))) (h .1) in
+      let a : x .name < length (layout .lengths) = ltb-true _ _ (h .0) in
+      record { kind = kind-small (x .verb); side = side-small (x .side); array = omega arith; step = c .0; p = c .1; q = c .2 }
 
   block-small : (x : Block Action) (levels : ℕ) → block-fits layout levels x ≡ true → largest x ≤ 4096 → size x ≤ 1024 → All Small (block-fields x)
   block-small = small-of action-fields (action-fits layout) action-small
@@ -175,7 +177,8 @@ module _ (layout : Layout) (few : length (layout .lengths) ≤ 32) (total : cell
   declarations-small [] e = tt
   declarations-small (d ∷ ds) e =
       let fit = and-out (ltb (d .array) (length (layout .lengths))) (all-pass (λ (c : Declaration). ltb (c .array) (length (layout .lengths))) ds) e in
-      (array-small (mode-kind (d .mode)) (d .side) (d .array) 0 0 (mode-small (d .mode)) (fit .0) (omega arith) (omega arith), declarations-small ds (fit .1))
+      let a : d .array < length (layout .lengths) = ltb-true _ _ (fit .0) in
+      (small (mode-kind (d .mode)) (side-number (d .side)) (d .array) 0 0 (mode-small (d .mode)) (side-small (d .side)) (omega arith) (omega arith) (omega arith), declarations-small ds (fit .1))
 
   passes-told : (ps : List Pass) → all-pass (pass-fits layout) ps ≡ true → passes-size ps ≤ 1024 → All Told (map pass-body ps)
   passes-told [] e h = tt

@@ -1,6 +1,6 @@
 -- The file of a plan within the bounds opens, and as that plan: `plain-round-trip`, `declared-round-trip`.
 use mathlib.Core.Path.{_≡_, refl, _∙_}
-use mathlib.Core.Bool.{true}
+use mathlib.Core.Bool.{Bool, true}
 use mathlib.Core.List.{List, [], _∷_, map}
 use Prim.Native.Nat.{ℕ, suc, _+_, _*_, _-_, _≤_}
 use native.Mathlib.Omega.{arith}
@@ -9,21 +9,22 @@ use lib.ListN.{length, length-map}
 use lib.Dec.{leb}
 use borrow.Author.Tests.{eq-eqb, leb-true, le-leb}
 use Rattle.model.specs.declared.Verdict.the-variants.{Accepted}
+use Rattle.model.specs.Records.{Action}
 use Rattle.model.specs.Blocks.{size, largest, Plan}
 use Rattle.model.specs.Judging.{DeclaredPlan}
 use Rattle.model.proofs.Booleans.{and-out, and-in}
-use Rattle.reading.specs.Bytes.{is-declared, is-plain, body-count, table, records-in, first-record, record-count, fields-at, between}
-use Rattle.rules.specs.Rules.{allowed, deepest}
+use Rattle.reading.specs.Bytes.{is-declared, is-plain, body-count, table, layout-of, records-in, first-record, record-count, fields-at, between}
+use Rattle.rules.specs.Rules.{fields-fit, allowed, deepest}
 use Rattle.records.specs.Records.{body-rows}
 use Rattle.format.specs.Opening.{opening}
 use Rattle.format.specs.Plans.{pass-at, plan-of, declared-plan-of}
-use Rattle.files.specs.Files.{fields-of, Body, plain-file}
+use Rattle.files.specs.Files.{action-fields, fields-of, Body, plain-file}
 use Rattle.files.specs.Inner.Short.{block-fields, block-fits, passes-size}
-use Rattle.files.specs.Bounds.{all-pass, arrays-fit, nested-within, products-fit, plain-fits, pass-fits, declared-fits, numbered-passes, numbered-plan, numbered-declared, call-fields, pass-body, declared-file}
+use Rattle.files.specs.Bounds.{all-pass, arrays-fit, action-fits, nested-within, products-fit, plain-fits, pass-fits, declared-fits, numbered-passes, numbered-plan, numbered-declared, call-fields, pass-body, declared-file}
 use Rattle.files.proofs.Files.Holding.{Along, none, more, Holds, head-of, tail-of, down, table-is}
 use Rattle.files.proofs.Files.Places.{Placed, Laid, laid}
 use Rattle.files.proofs.Files.Accepting.{Passes, opens}
-use Rattle.files.proofs.Files.Records.{count-of, fields-count, block-walks}
+use Rattle.files.proofs.Files.Records.{count-of, fields-count, action-fit, block-walks}
 use Rattle.files.proofs.Files.Reading.{block-reads, body0-reads}
 use Rattle.files.proofs.Files.Calling.{body0-walks}
 use Rattle.files.proofs.Files.Declaring.{passes-count, passes-entries, passes-walk, passes-read, numbered-count}
@@ -38,6 +39,9 @@ module _ (plan : Plan) where
 
   plain-laid : Laid plain 2 (plan .layout) (plain-body ∷ [])
   plain-laid = laid 2 (plan .layout) (plain-body ∷ [])
+
+  pub plain-layout : layout-of (plain-file plan) ≡ plan .layout
+  plain-layout = plain-laid .arrays-are
 
   pub plain-is-plain : is-plain (plain-file plan) ≡ true
   plain-is-plain = eq-eqb _ 2 (plain-laid .kind-is)
@@ -55,26 +59,32 @@ module _ (plan : Plan) where
   plain-held : Holds (fields-at plain) 0 (block-fields (plan .body))
   plain-held = rw (plain-laid .start-is) at (plain-placed .held)
 
-  plain-records : block-fits (plan .layout) 16 (plan .body) ≡ true → largest (plan .body) ≤ 4096 → Passes (body-rows plain 0)
-  unfolding body-rows deepest allowed
-  plain-records fits product =
-      let end : first-record plain 1 ≡ 0 + size (plan .body) = rw (plain-laid .start-is, fields-count (plan .body)) at (plain-placed .next) in
-      let deep : deepest plain ≡ 15 = rw (plain-laid .kind-is) in
-      rw (end, plain-laid .start-is)
-      (block-walks plain 0 0 (plan .layout) (plain-laid .arrayed) (λ r x k e. rw (plain-laid .kind-is, e)) (plan .body) 16 0 1 0 fits (omega arith) (omega arith) (rw one-mul product) (omega arith) plain-held (records-in plain 0))
+  -- a test of actions that lets through only those whose fields fit this file
+  module _ (fits : Action → Bool) (fit : (x : Action) → fits x ≡ true → fields-fit (plain-file plan) (action-fields x) ≡ true) where
+    plain-records : nested-within fits 16 (plan .body) ≡ true → largest (plan .body) ≤ 4096 → Passes (body-rows plain 0)
+    unfolding body-rows deepest allowed
+    plain-records block-in product =
+        let end : first-record plain 1 ≡ 0 + size (plan .body) = rw (plain-laid .start-is, fields-count (plan .body)) at (plain-placed .next) in
+        let deep : deepest plain ≡ 15 = rw (plain-laid .kind-is) in
+        rw (end, plain-laid .start-is)
+        (block-walks plain 0 0 (λ r x k e. rw (plain-laid .kind-is, e)) fits fit (plan .body) 16 0 1 0 block-in (omega arith) (omega arith) (rw one-mul product) (omega arith) plain-held (records-in plain 0))
+
+    pub plain-opens : arrays-fit (plan .layout) ≡ true → nested-within fits 16 (plan .body) ≡ true → largest (plan .body) ≤ 4096 → size (plan .body) ≤ 1024 →
+        (opening (plain-file plan) ≡ Accepted) × (plan-of (plain-file plan) ≡ numbered-plan plan)
+    unfolding plan-of
+    plain-opens arrays-in block-in product few =
+        let read-back = rw zero-add at (block-reads (fields-at plain) (plan .body) (size (plan .body)) 0 (omega arith) plain-held) in (
+          opens plain 2 (plan .layout) (plain-body ∷ []) plain-laid refl arrays-in refl refl (omega (arith, fields-count (plan .body)))
+              (more (record { declared = omega arith; none-first = refl }) none) (more (plain-records block-in product) none),
+          rw (plain-count, plain-laid .arrays-are, read-back),
+        )
 
   pub plain-round-trip : plain-fits plan ≡ true → (opening (plain-file plan) ≡ Accepted) × (plan-of (plain-file plan) ≡ numbered-plan plan)
-  unfolding plan-of
   plain-round-trip fits =
       let (arrays-in, h) = and-out (arrays-fit (plan .layout)) _ fits in
       let (block-in, h′) = and-out (block-fits (plan .layout) 16 (plan .body)) _ h in
       let (products-in, few-records) = and-out (products-fit (plan .body)) _ h′ in
-      let few : size (plan .body) ≤ 1024 = leb-true _ _ few-records in
-      let read-back = rw zero-add at (block-reads (fields-at plain) (plan .body) (size (plan .body)) 0 (omega arith) plain-held) in (
-        opens plain 2 (plan .layout) (plain-body ∷ []) plain-laid refl arrays-in refl refl (omega (arith, fields-count (plan .body)))
-            (more (record { declared = omega arith; none-first = refl }) none) (more (plain-records block-in (leb-true _ _ products-in)) none),
-        rw (plain-count, plain-laid .arrays-are, read-back),
-      )
+      plain-opens (action-fits (plan .layout)) (action-fit plain (plan .layout) (plain-laid .arrayed)) arrays-in block-in (leb-true _ _ products-in) (leb-true _ _ few-records)
 
 -- a declared plan
 module _ (plan : DeclaredPlan) where

@@ -46,11 +46,14 @@ all-pass g (x ∷ l) = g x && all-pass g l
 abbrev pub arrays-fit : Layout → Bool
 arrays-fit layout = between 1 32 (length (layout .lengths)) && (all-pass (between 1 4096) (layout .lengths) && leb (cell-count layout) 4096)
 
--- a record's P and Q: "cells P to Q − 1 of the array, P < Q ≤ its length"; where it speaks of the whole array, "Unused fields are zero."
+-- a record's step, a byte, and its P and Q: "cells P to Q − 1 of the array, P < Q ≤ its length"; where it speaks of the whole array,
+-- "Unused fields are zero."
 abbrev pub cells-fit : Layout → Action → Bool
-cells-fit layout x = cond (whole (x .verb)) (eqb (x .p) 0 && eqb (x .q) 0) (ltb (x .p) (x .q) && leb (x .q) (span-of layout (x .name) .length))
+cells-fit layout x =
+    cond (whole (x .verb)) (eqb (x .step) 0 && (eqb (x .p) 0 && eqb (x .q) 0))
+    (ltb (x .step) 256 && (ltb (x .p) (x .q) && leb (x .q) (span-of layout (x .name) .length)))
 
--- the fields of kinds 1 to 5: the array, then P and Q
+-- the fields of kinds 1 to 5: the array, then step, P and Q
 abbrev pub action-fits : Layout → Action → Bool
 action-fits layout x = ltb (x .name) (length (layout .lengths)) && cells-fit layout x
 

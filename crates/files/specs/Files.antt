@@ -1,5 +1,5 @@
 -- From a plain plan back to the bytes of its file (document 01, 'The plan file').
-use Prim.Native.Nat.{ℕ, zero, suc, _/_, _%_}
+use Prim.Native.Nat.{ℕ, suc, _/_, _%_}
 use mathlib.Core.List.{List, [], _∷_, _++_}
 use lib.ListN.{length}
 use Rattle.model.specs.Lists.{chain}
@@ -15,15 +15,16 @@ u16-bytes n = n % 256 ∷ n / 256 ∷ []
 
 -- "A record: kind, side, array, zero, then two numbers of two bytes, P and Q."
 abbrev pub record-bytes : Fields → List ℕ
-record-bytes x = x .kind ∷ x .side ∷ x .array ∷ x .zero ∷ (u16-bytes (x .p) ++ u16-bytes (x .q))
+record-bytes x = x .kind ∷ x .side ∷ x .array ∷ x .step ∷ (u16-bytes (x .p) ++ u16-bytes (x .q))
 
--- a record from its fields, the fourth byte zero
+-- a record from its fields, without a step
 abbrev pub fields : ℕ → ℕ → ℕ → ℕ → ℕ → Fields
-fields kind side array p q = record { kind = kind; side = side; array = array; zero = 0; p = p; q = q }
+fields kind side array p q = record { kind = kind; side = side; array = array; step = 0; p = p; q = q }
 
 -- "1 read, 2 write, 3 copy .. 4 need, 5 mark"
 abbrev pub action-fields : Action → Fields
-action-fields x = fields (kind (x .verb)) (side-number (x .side)) (x .name) (x .p) (x .q)
+action-fields x =
+    record { kind = kind (x .verb); side = side-number (x .side); array = x .name; step = x .step; p = x .p; q = x .q }
 
 -- "6 branch: P records of the first arm, then Q of the second. 7 loop: P records.", 9 "P records, Q turns"; any other record by `leaf`
 abbrev pub fields-of : {A : Type 0} → (A → Fields) → Block A → List Fields

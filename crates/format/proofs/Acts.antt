@@ -45,25 +45,25 @@ module _ (f : List ℕ) (x : Fields) (e : fields-fit f x ≡ true) where
   cells-fit h k =
       let side = ltb (x .side) 2 in
       let array = ltb (x .array) (array-count f) in
-      let w₁ = and-out (side && array && eqb (x .zero) 0 && ltb (x .p) (x .q)) _ (fit-cells f x _ _ _ sizes h k ∙ e) in
-      let w₂ = and-out (side && array && eqb (x .zero) 0) (ltb (x .p) (x .q)) (w₁ .0) in
-      let w₃ = and-out side array (and-out (side && array) (eqb (x .zero) 0) (w₂ .0) .0) in
+      let w₁ = and-out (side && array && ltb (x .p) (x .q)) _ (fit-cells f x _ _ _ sizes h k ∙ e) in
+      let w₂ = and-out (side && array) (ltb (x .p) (x .q)) (w₁ .0) in
+      let w₃ = and-out side array (w₂ .0) in
       ((omega (arith, ltb-true (x .side) 2 (w₃ .0)), ltb-true _ _ (w₃ .1)), ltb-true _ _ (w₂ .1), leb-true _ _ (w₁ .1))
 
   pub array-fits : 4 ≤ x .kind → x .kind ≤ 5 → on-array
   array-fits h k =
       let side = ltb (x .side) 2 in
       let array = ltb (x .array) (array-count f) in
-      let w₁ = and-out (side && array && eqb (x .zero) 0 && eqb (x .p) 0) _ (fit-array f x _ _ _ sizes h k ∙ e) in
-      let w₂ = and-out (side && array && eqb (x .zero) 0) (eqb (x .p) 0) (w₁ .0) in
-      let w₃ = and-out side array (and-out (side && array) (eqb (x .zero) 0) (w₂ .0) .0) in
+      let w₁ = and-out (side && array && eqb (x .step) 0 && eqb (x .p) 0) _ (fit-array f x _ _ _ sizes h k ∙ e) in
+      let w₂ = and-out (side && array && eqb (x .step) 0) (eqb (x .p) 0) (w₁ .0) in
+      let w₃ = and-out side array (and-out (side && array) (eqb (x .step) 0) (w₂ .0) .0) in
       (omega (arith, ltb-true (x .side) 2 (w₃ .0)), ltb-true _ _ (w₃ .1))
 
   -- "Q turns from 1 to 4,096"
   pub turns-fit : x .kind ≡ 9 → (1 ≤ x .q) × (x .q ≤ 4096)
-  turns-fit k = of-range 1 4096 (x .q) (and-out (eqb (x .side) 0 && eqb (x .array) 0 && eqb (x .zero) 0) (between 1 4096 (x .q)) (fit-fixed f x _ _ _ sizes k ∙ e) .1)
+  turns-fit k = of-range 1 4096 (x .q) (and-out (eqb (x .side) 0 && eqb (x .array) 0 && eqb (x .step) 0) (between 1 4096 (x .q)) (fit-fixed f x _ _ _ sizes k ∙ e) .1)
 
-  side-fits : 1 ≤ x .kind → x .kind ≤ 5 → x .side ≤ 1
+  pub side-fits : 1 ≤ x .kind → x .kind ≤ 5 → x .side ≤ 1
   side-fits h k = elim (decLt 3 (x .kind)) [ yes l ↦ array-fits (omega arith) k .0 | no l ↦ cells-fit h (omega arith) .0 .0 ]
 
 -- what a walk knows of record r, whose fields x it has read
@@ -109,7 +109,7 @@ after-act {r = r} {x = x} s k =
 
 -- a record's fields with this verb
 abbrev pub acting : Verb → Fields → Action
-acting v x = record { verb = v; side = side-of (x .side); name = x .array; p = x .p; q = x .q }
+acting v x = record { verb = v; side = side-of (x .side); name = x .array; step = x .step; p = x .p; q = x .q }
 
 -- the action of a record of kind 1 to 5, kind by kind
 module _ (x : Fields) (h : (1 ≤ x .kind) × (x .kind ≤ 5)) where

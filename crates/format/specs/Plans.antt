@@ -20,7 +20,7 @@ verb-of k = cond (eqb k 1) read (cond (eqb k 2) write (cond (eqb k 3) copy (cond
 
 -- a record of kinds 1 to 5, by its fields
 unfoldable pub action-of : Fields → Action
-action-of x = record { verb = verb-of (x .kind); side = side-of (x .side); name = x .array; p = x .p; q = x .q }
+action-of x = record { verb = verb-of (x .kind); side = side-of (x .side); name = x .array; step = x .step; p = x .p; q = x .q }
 
 -- "16 R, 17 W, 18 RW: side and array"
 unfoldable pub declaration-of : Fields → Declaration

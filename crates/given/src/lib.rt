@@ -25,7 +25,7 @@ pub fn put_record(out: &mut [u8], x: Fields)
     out[0] = x.kind;
     out[1] = x.side;
     out[2] = x.array;
-    out[3] = x.zero;
+    out[3] = x.step;
     out[4] = (p % 256) as u8;
     out[5] = (p / 256) as u8;
     out[6] = (q % 256) as u8;
@@ -43,7 +43,7 @@ pub fn put_given(out: &mut [u8], kind: u8, side: u8, array: u8)
             kind: kind,
             side: side,
             array: array,
-            zero: 0,
+            step: 0,
             p: 0,
             q: 0,
         },

@@ -2,8 +2,10 @@
 ghost use Prim.Native.Nat.{_≤_};
 use crate::last;
 use console::page::Page;
+use console::page::filled;
 use console::page::indent;
 use console::page::row;
+use console::page::text;
 use reading::Fields;
 use reading::kinds::COPY;
 use reading::kinds::FIXED;
@@ -15,6 +17,7 @@ use reading::kinds::RW;
 use reading::kinds::W;
 use reading::kinds::WRITE;
 use reading::nests;
+use reading::step_of;
 
 // The number of a record, what it is by its kind, and the body that it calls or its turns; behind a row that does not end its line stands where the
 // record acts. Then a fixed loop of one turn, the line for an arm that is empty, and the line before a second arm.
@@ -63,16 +66,19 @@ fn kind_number(x: Fields) -> u16 {
 }
 
 // Where a record acts: on the host, or from row 10 on the card, on a whole array, on one cell or on several.
-const PLACES: [u8; 149] = *b"
-00: host array #|
-01: host array # cell #|
-02: host array # cells # to #|
-10: card array #|
-11: card array # cell #|
-12: card array # cells # to #|
+const PLACES: [u8; 143] = *b"
+00: host array #
+01: host array # cell #
+02: host array # cells # to #
+10: card array #
+11: card array # cell #
+12: card array # cells # to #
 ";
 
-// The row for a record with these fields, on the host; there is no row 90.
+// From this row on there is none: a record that acts nowhere.
+const NOWHERE: u8 = 90;
+
+// The row for a record with these fields, on the host.
 fn place_row(x: Fields) -> u8
     ensures { λ r. ⌜ r ≤ 90 ⌝ }
 {
@@ -85,7 +91,7 @@ fn place_row(x: Fields) -> u8
             2
         }
         NEED | MARK | R | W | RW => 0,
-        0 | 6..=15 | 19..=255 => 90,
+        0 | 6..=15 | 19..=255 => NOWHERE,
     }
 }
 
@@ -95,14 +101,49 @@ fn side_row(x: Fields) -> u8 {
     if x.side == 0 { k } else { k + 10 }
 }
 
+// The ending of a number, as in 2nd.
+const ENDINGS: [u8; 25] = *b"
+01:st
+02:nd
+03:rd
+04:th
+";
+
+// The row for a number: the one of its last digit, save for 11, 12 and 13.
+fn ending(n: usize) -> u8 {
+    let last = n % 10;
+    if (n / 10 % 10 == 1) | (last == 0) | (3 < last) {
+        return 4;
+    }
+    last as u8
+}
+
+// Which of its cells a record with a step takes; nothing where it takes each.
+fn step_words(page: &mut Page, at: usize, x: Fields) -> usize {
+    let step = step_of(x);
+    if step == 1 {
+        return at;
+    }
+    let at = filled(page, at, b", every #", &[step as u64]);
+    let at = row(page, at, &ENDINGS, ending(step), &[]);
+    text(page, at, b" cell")
+}
+
+// The rest of the line of a record that acts.
 fn place_words(page: &mut Page, at: usize, x: Fields) -> usize {
-    row(
+    let k = side_row(x);
+    if NOWHERE <= k {
+        return at;
+    }
+    let at = row(
         page,
         at,
         &PLACES,
-        side_row(x),
+        k,
         &[x.array as u64, x.p as u64, last(x.q)],
-    )
+    );
+    let at = step_words(page, at, x);
+    text(page, at, b"\n")
 }
 
 // The line that stands for the first arm of a branch or the arm of a loop, fixed or not, where it is empty.

@@ -45,7 +45,7 @@ moved s t p q w = rw (p, q) at w
 
 -- eight bytes that are the same give the same fields
 module _ (g f : List ℕ) (a c : ℕ) (near : (m n k : ℕ) → m ≡ a + k → n ≡ c + k → k < 8 → byte-at g m ≡ byte-at f n) where
-  same-fields : _≡_ {A = Fields} (record { kind = byte-at g a; side = byte-at g (a + 1); array = byte-at g (a + 2); zero = byte-at g (a + 3); p = u16-at g (a + 4); q = u16-at g (a + 6) }) (record { kind = byte-at f c; side = byte-at f (c + 1); array = byte-at f (c + 2); zero = byte-at f (c + 3); p = u16-at f (c + 4); q = u16-at f (c + 6) })
+  same-fields : _≡_ {A = Fields} (record { kind = byte-at g a; side = byte-at g (a + 1); array = byte-at g (a + 2); step = byte-at g (a + 3); p = u16-at g (a + 4); q = u16-at g (a + 6) }) (record { kind = byte-at f c; side = byte-at f (c + 1); array = byte-at f (c + 2); step = byte-at f (c + 3); p = u16-at f (c + 4); q = u16-at f (c + 6) })
   unfolding u16-at
   same-fields =
       let e₀ = near a c 0 (omega arith) (omega arith) (omega arith) in

@@ -22,7 +22,7 @@ fn record_in(body: &[u8], i: usize) -> Fields
         kind: byte(body, at),
         side: byte(body, at + 1),
         array: byte(body, at + 2),
-        zero: byte(body, at + 3),
+        step: byte(body, at + 3),
         p: number_at(body, at + 4),
         q: number_at(body, at + 6),
     }

@@ -1,17 +1,37 @@
 -- How the table of the records that concern a cell is made.
-use Prim.Native.Nat.{ℕ, _+_, _≤_, _<_}
+use Prim.Native.Nat.{ℕ, _+_, _-_, _%_, _≤_, _<_}
 use mathlib.Core.Path.{_≡_, sym, _∙_}
-use mathlib.Core.Bool.{Bool, true, false, _&&_, _||_}
+use mathlib.Core.Bool.{Bool, true, false, _||_, and-false}
 use mathlib.Core.List.{List}
 use native.Nat.{ℕᴺ-discrete}
 use native.Mathlib.Omega.{arith}
-use lib.Dec.{leb, ltb}
+use lib.Dec.{eqb, leb}
 use lib.ListN.{length-set, getD, set, replicate, length-replicate, getD-replicate}
 use lib.Seq.{getD-set-same, getD-set-other}
 use borrow.Author.Tests.{eq-eqb, ne-eqb, le-leb, lt-leb, lt-ltb, le-ltb}
+use Rattle.model.specs.Records.{distance, stepped}
 use Rattle.reading.specs.declared.Fields.{Fields}
 use Rattle.reading.specs.Bytes.{first-arm, second-arm, record-count, fields-at}
+use Rattle.model.proofs.Numbering.{stepped-one}
 use Rattle.lookahead.specs.Inner.Ahead.{covers, nearest, Spare, Ahead}
+
+-- whether an offset is stepped on: not before P nor from Q on; between them, without a step always, with one if whole steps lead there
+module _ (x : Fields) (offset : ℕ) where
+  abbrev stepped-on : Bool
+  stepped-on = stepped (distance (x .step)) (x .p) (x .q) offset
+
+  pub stepped-before : offset < x .p → false ≡ stepped-on
+  stepped-before h = rw (lt-leb (x .p) offset h)
+
+  pub stepped-after : x .q ≤ offset → false ≡ stepped-on
+  stepped-after h = rw (le-ltb offset (x .q) h) (sym (and-false (leb (x .p) offset)))
+
+  module _ (h : x .p ≤ offset) (l : offset < x .q) where
+    pub stepped-each : x .step ≤ 1 → true ≡ stepped-on
+    stepped-each s = let k : distance (x .step) ≡ 1 = omega arith in rw k (rw (stepped-one (x .p) (x .q) offset, le-leb (x .p) offset h, lt-ltb offset (x .q) l))
+
+    pub stepped-whole : 1 < x .step → eqb ((offset - x .p) % x .step) 0 ≡ stepped-on
+    stepped-whole s = let k : distance (x .step) ≡ x .step = omega arith in rw (k, le-leb (x .p) offset h, lt-ltb offset (x .q) l)
 
 -- a record of another array covers no cell of this one
 module _ (x : Fields) (array offset : ℕ) where
@@ -19,7 +39,7 @@ module _ (x : Fields) (array offset : ℕ) where
   unfolding covers
   covers-other n = rw (ne-eqb array (x .array) n)
 
-  pub covers-own : array ≡ x .array → (leb 4 (x .kind) || (leb (x .p) offset && ltb offset (x .q))) ≡ covers x array offset
+  pub covers-own : array ≡ x .array → (leb 4 (x .kind) || stepped (distance (x .step)) (x .p) (x .q) offset) ≡ covers x array offset
   unfolding covers
   covers-own e = rw (eq-eqb array (x .array) e)
 

@@ -1,6 +1,7 @@
 // The records that concern a cell: those that cover it, and the branches and loops that hold one which does. A walk for the cell passes all others by.
 ghost use mathlib.Core.Path.{_≡_};
 ghost use Prim.Native.Nat.{_<_};
+ghost use Rattle.model.specs.Records.{distance, stepped};
 ghost use Rattle.reading.specs.Bytes.{record-count};
 ghost use Rattle.format.specs.Inner.Walks.{Plain};
 ghost use Rattle.lookahead.specs.Inner.Ahead.{covers, nearest, Spare, Ahead};
@@ -15,6 +16,24 @@ use reading::second_arm;
 // Stands for no record in the table.
 pub const NOWHERE: usize = 65535;
 
+// Whether a record's step leads from P to `offset`, below Q.
+fn steps_on(x: Fields, offset: usize) -> bool
+    ensures { λ r. ⌜ r ≡ stepped (distance (x .step)) (x .p) (x .q) offset ⌝ }
+{
+    let p = x.p as usize;
+    if offset < p {
+        return false;
+    }
+    if x.q as usize <= offset {
+        return false;
+    }
+    if x.step <= 1 {
+        return true;
+    }
+    // In 32 bits: a remainder of 64 bits takes several times as long.
+    ((offset - p) as u32) % (x.step as u32) == 0
+}
+
 // Whether a record of kind 1 to 5 covers cell `offset` of an array.
 fn covers(x: Fields, array: Array, offset: usize) -> bool
     ensures { λ r. ⌜ r ≡ covers x (array .0) offset ⌝ }
@@ -22,7 +41,7 @@ fn covers(x: Fields, array: Array, offset: usize) -> bool
     if array.0 != x.array as u16 {
         return false;
     }
-    (NEED <= x.kind) | ((x.p as usize <= offset) & (offset < x.q as usize))
+    (NEED <= x.kind) | steps_on(x, offset)
 }
 
 // The first record from r on that concerns the cell, where `next` is the first one after r.

@@ -9,7 +9,7 @@ use native.Mathlib.Nat.{mul-le-mul-left}
 use native.Mathlib.Numerals.{add-one}
 use native.Nat.{ℕᴺ-discrete}
 use native.Mathlib.Omega.{arith}
-use lib.Dec.{ltb, eqb}
+use lib.Dec.{ltb, leb, eqb}
 use lib.ListN.{length, getD, drop}
 use lib.Seq.{drop-cons, drop-length}
 use borrow.Author.Tests.{eq-eqb, ne-eqb, eqb-true, eqb-false, ltb-false}
@@ -18,7 +18,7 @@ use Rattle.model.specs.declared.Verdict.{Verdict}
 use Rattle.model.specs.declared.Verdict.the-variants.{Accepted, Stopped, Refused}
 use Rattle.model.specs.Sides.{Layout, cell-count, span-of, host}
 use Rattle.model.specs.Effects.{State, effect}
-use Rattle.model.specs.Records.{Action}
+use Rattle.model.specs.Records.{Action, distance}
 use Rattle.model.specs.Blocks.{Block, _then_}
 use Rattle.model.specs.declared.Tally.{Tally}
 use Rattle.model.specs.Runs.{Event, Config, Ending, finished, stopped, out-of-choices, Step, step, lowest-unmet, onward, tally, proper}
@@ -115,16 +115,16 @@ module _ (f : List ℕ) (bodies : ℕ) (w : Plain f bodies) (d r end : ℕ) (par
   unfolding second-arm
   no-second k = rw (ne-eqb (x .kind) 6 (λ z. omega arith))
 
--- what the runner knows of a record of kind 1 to 5, whose cells are `from` up to `to` and whose array is `first` up to `next`, before it acts
+-- what the runner knows of a record of kind 1 to 5, whose cells are `from` up to `to` at its step and whose array is `first` up to `next`, before it acts
 pub record Able (layout : Layout) (x : Fields) (first next from to : ℕ) (s : Stored) (at : ℕ) (own others latest : List ℕ) : Type 0 where
   pub kind : (1 ≤ x .kind) × (x .kind ≤ 5)
   pub array : x .array < 32
   pub low : Low s
   pub sure : Sure (s .known) (x .array) from to own others latest
-  pub rooms : Rooms from to own others latest
+  pub rooms : x .step < 256 → Rooms (x .step) from to own others latest
   pub inside : to ≤ cell-count layout
-  pub spans : CellsAt layout (action-of x) from to
-  pub whole : (eqb from first && eqb to next) ≡ true → ArrayAt layout (x .array) from to
+  pub spans : CellsAt layout (action-of x) (distance (x .step)) from to
+  pub whole : (eqb from first && eqb to next && leb (x .step) 1) ≡ true → ArrayAt layout (x .array) (distance (x .step)) from to
   pub few : at < 1024
 
 -- the laws of a step from where the machine stands
@@ -475,10 +475,10 @@ module _ (f choices : List ℕ) (m : Runner) (own others latest : List ℕ) (t :
               writes = omega (arith, w .holds .writes, n .1, w .few, w .used, w .many);
               moved = omega (arith, w .holds .moved, w .few-moved, w .few, w .used, w .many);
             };
-            rooms = record { few = i .2; in-own = room own (w .holds .own-room); in-others = room others (w .holds .others-room); in-latest = room latest (w .holds .latest-room) };
+            rooms = λ z. record { step = z; few = i .2; in-own = room own (w .holds .own-room); in-others = room others (w .holds .others-room); in-latest = room latest (w .holds .latest-room) };
             inside = i .1;
             spans = spans f (m .bodies) (w .plain) x fit kinds first next a b;
-            whole = whole-at f (m .bodies) (w .plain) x fit kinds first next a b from to;
+            whole = whole-at f (m .bodies) (w .plain) x fit kinds first next a b (x .step) from to;
             few = omega (arith, part .inside, few-records);
           }
 
@@ -486,7 +486,7 @@ module _ (f choices : List ℕ) (m : Runner) (own others latest : List ℕ) (t :
       pub at-record : (r : Acted) (own′ others′ latest′ : List ℕ) → Acts layout (action-of x) (stored-with m t) own others latest r own′ others′ latest′ → Stepped (after-act m r) own′ others′ latest′ (tally-after t r)
       at-record (Done s) own′ others′ latest′ acts =
           let q = acts (k .state) (k .history) (w .holds) in
-          at-act y s own′ others′ latest′ (q .0) (q .1) (few-moved layout (action-of x) from to (able .spans) (able .rooms .few) (k .state) (k .history))
+          at-act y s own′ others′ latest′ (q .0) (q .1) (few-moved layout (action-of x) (distance (x .step)) from to (able .spans) (inside f (m .bodies) (w .plain) x fit kinds first next a b .2) (k .state) (k .history))
       at-record (Unmet c) own′ others′ latest′ acts =
           let q = acts (k .state) (k .history) (w .holds) in
           rw (q .1, q .2, q .3) (at-stop y c (q .0))

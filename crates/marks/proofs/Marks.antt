@@ -7,12 +7,14 @@ use native.Nat.{ℕᴺ-discrete}
 use native.Mathlib.Decide.{decLt}
 use native.Mathlib.Numerals.{add-one}
 use native.Mathlib.Omega.{arith}
-use lib.Dec.{ltb, leb, eqb}
+use lib.Dec.{ltb, eqb}
 use lib.ListN.{length, getD, set, replicate, length-replicate, length-set}
 use lib.Seq.{getD-set-same, getD-set-other}
-use borrow.Author.Tests.{lt-ltb, le-ltb, le-leb, lt-leb, eq-eqb, ne-eqb}
+use borrow.Author.Tests.{lt-ltb, le-ltb, eq-eqb, ne-eqb}
+use Rattle.model.specs.Records.{stepped}
+use Rattle.model.proofs.Numbering.{stepped-first, stepped-next, stepped-none}
 use Rattle.reading.specs.declared.Fields.{Fields}
-use Rattle.reading.specs.Inner.Cells.{from-of, to-of}
+use Rattle.reading.specs.Inner.Cells.{from-of, to-of, step-of}
 use Rattle.marks.specs.Inner.Marks.{marked, Adds, all-marked, hits, met}
 
 same-below : (k c : ℕ) → (k ≡ c → ⊥) → ltb k c ≡ ltb k (c + 1)
@@ -47,21 +49,18 @@ module _ (l : List Bool) (n : length l ≡ 4096) (c : ℕ) (h : c < 4096) (v : B
   unfolding marked
   stored-other k e = getD-set-other l c k v false e
 
--- the cells from `from` on
-module _ (before : List Bool) (from : ℕ) where
-  pub range-none : length before ≡ 4096 → Adds before before (λ c. leb from c && ltb c from)
-  range-none n = record { size = n; marks = λ c l. sym (rw (none c (decLt c from)) (or-false (marked before c))) }
-    where
-      none : (c : ℕ) → Dec (c < from) → (leb from c && ltb c from) ≡ false
-      none c (yes m) = rw (lt-leb from c m)
-      none c (no m) = rw (le-ltb c from (omega arith)) (and-false (leb from c))
+-- the cells c, c + k and so on below `to`
+module _ (k to c : ℕ) (l : List Bool) (n : length l ≡ 4096) where
+  pub steps-none : to ≤ c → Adds l l (stepped k c to)
+  steps-none h = record { size = n; marks = λ d g. sym (rw (stepped-none k c to h d) (or-false (marked l d))) }
 
-  pub range-next : (l : List Bool) (c : ℕ) → c < 4096 → from ≤ c → Adds before l (λ k. leb from k && ltb k c) → Adds before (set l c true) (λ k. leb from k && ltb k (c + 1))
-  range-next l c h b m = record {
-    size = stored-size l (m .size) c h true;
-    marks = λ k g. elim (ℕᴺ-discrete k c) [
-      | yes e ↦ rw (e, stored-here l (m .size) c h true, le-leb from c b, lt-ltb c (c + 1) (omega arith)) (sym (or-true (marked before c)))
-      | no e ↦ stored-other l (m .size) c h true k e ∙ m .marks k g ∙ rw (same-below k c e)
+  -- c, and then the others
+  pub steps-next : 1 ≤ k → c < to → to ≤ 4096 → (after : List Bool) → Adds (set l c true) after (stepped k (c + k) to) → Adds l after (stepped k c to)
+  steps-next some h low after m = record {
+    size = m .size;
+    marks = λ d g. m .marks d g ∙ elim (ℕᴺ-discrete d c) [
+      | yes e ↦ rw (e, stored-here l n c (omega arith) true, stepped-first k c to h) (sym (or-true (marked l c)))
+      | no e ↦ rw (stored-other l n c (omega arith) true d e, stepped-next k c to some d e)
     ];
   }
 
@@ -97,9 +96,9 @@ module _ (starts sides : List ℕ) (x : Fields) (before : List Bool) where
   hits-side n s = none n (λ c. rw (ne-eqb (x .side) (getD sides (x .array) 0) s) (and-false (eqb (x .kind) 2)))
 
   pub hits-write : x .kind ≡ 2 → x .side ≡ getD sides (x .array) 0 → (from to : ℕ) → from ≡ from-of x (getD starts (x .array) 0) → to ≡ to-of x (getD starts (x .array) 0) (getD starts (x .array + 1) 0) →
-      (after : List Bool) → Adds before after (λ c. leb from c && ltb c to) → Adds before after (hits starts sides x)
+      (step : ℕ) → step ≡ step-of x → (after : List Bool) → Adds before after (stepped step from to) → Adds before after (hits starts sides x)
   unfolding hits
-  hits-write k s from to a b after m = record { size = m .size; marks = λ c l. m .marks c l ∙ rw (a, b, eq-eqb (x .kind) 2 k, eq-eqb (x .side) (getD sides (x .array) 0) s) }
+  hits-write k s from to a b step e after m = record { size = m .size; marks = λ c l. m .marks c l ∙ rw (a, b, e, eq-eqb (x .kind) 2 k, eq-eqb (x .side) (getD sides (x .array) 0) s) }
 
 -- whether all cells from c up to `end` are marked
 module _ (l : List Bool) (c end : ℕ) (h : c < end) where

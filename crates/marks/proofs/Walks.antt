@@ -79,13 +79,13 @@ module _ (f starts sides : List ℕ) (t : Tables f starts sides) where
 
     -- what a write says of its cells
     module _ (k : x .kind ≡ 2) where
-      fits : (x .side < 2) × (x .array < array-count f) × (x .p ≤ x .q) × (x .q ≤ span-of (layout-of f) (x .array) .length)
+      fits : (x .side < 2) × (x .array < array-count f) × (x .q ≤ span-of (layout-of f) (x .array) .length)
       fits =
           let w = cells-fit f x (steps f r end (h .less) (h .walk) x (h .fields) .fits) (omega arith) (omega arith) in
-          (omega arith, w .0 .1, omega arith, rw (array-length f (x .array) (w .0 .1)) (w .2))
+          (omega arith, w .0 .1, rw (array-length f (x .array) (w .0 .1)) (w .2))
 
-      pub write-fits : (x .array < 32) × (x .p ≤ x .q) × (getD starts (x .array) 0 + x .q ≤ 4096)
-      write-fits = (omega (arith, fits .1, t .arrays-low), fits .2, rw (t .starts-are (x .array) (omega (arith, fits .1))) (omega (arith, fits .3, array-ends (layout-of f) (x .array), t .cells-low)))
+      pub write-fits : (x .array < 32) × (getD starts (x .array) 0 + x .q ≤ 4096)
+      write-fits = (omega (arith, fits .1, t .arrays-low), rw (t .starts-are (x .array) (omega (arith, fits .1))) (omega (arith, fits .2, array-ends (layout-of f) (x .array), t .cells-low)))
 
       -- the side for the array of a cell of the record is the side for the record's array
       write-side : (c : ℕ) (w : Bool) → covers (layout-of f) (acting write x) c ≡ w → (same-side (side-of (x .side)) (side-at c) && w) ≡ (eqb (x .side) (getD sides (x .array) 0) && w)
@@ -94,7 +94,7 @@ module _ (f starts sides : List ℕ) (t : Tables f starts sides) where
 
       write-hits : (c : ℕ) → writes-cell (layout-of f) (side-at c) c (action-of x) ≡ hits starts sides x c
       unfolding action-of hits
-      write-hits c = rw (ne-eqb (x .kind) 1 (λ z. omega arith), eq-eqb (x .kind) 2 k, le-leb (x .kind) 3 (omega arith), write-side c _ refl, covers-range (layout-of f) (acting write x) c refl (fits .3), t .starts-are (x .array) (omega (arith, fits .1)))
+      write-hits c = rw (ne-eqb (x .kind) 1 (λ z. omega arith), eq-eqb (x .kind) 2 k, le-leb (x .kind) 3 (omega arith), write-side c _ refl, covers-range (layout-of f) (acting write x) c refl (fits .2), t .starts-are (x .array) (omega (arith, fits .1)))
 
     record-hits : (c : ℕ) → writes-cell (layout-of f) (side-at c) c (action-of x) ≡ hits starts sides x c
     unfolding hits

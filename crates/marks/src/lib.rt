@@ -2,12 +2,13 @@
 ghost use mathlib.Core.Path.{_≡_};
 ghost use mathlib.Core.Bool.{_&&_};
 ghost use Prim.Native.Nat.{ℕ, _+_, _-_, _≤_, _<_};
-ghost use lib.Dec.{leb, ltb};
 ghost use lib.ListN.{length, getD};
+ghost use Rattle.model.specs.Records.{stepped};
 ghost use Rattle.reading.specs.Inner.Places.{Inside};
 ghost use Rattle.format.specs.Inner.Walks.{Walkable};
 ghost use Rattle.marks.specs.Inner.Marks.{marked, Adds, all-marked, Tables, hits, always, met};
 use reading::Fields;
+use reading::Span;
 use reading::cells_of;
 use reading::first_arm;
 use reading::kinds::BRANCH;
@@ -21,14 +22,40 @@ use reading::record_at;
 use reading::second_arm;
 
 // Marks the cells from `from` up to `end`.
-pub fn mark(set: &mut [bool; CELLS], from: usize, end: usize)
-    requires { ⌜ (from ≤ end) × (end ≤ 4096) × (length (now set) ≡ 4096) ⌝ }
-    ensures { λ _. ⌜ Adds (now (set .entry)) (now (set .exit)) (λ (c : ℕ). leb from c && ltb c end) ⌝ }
+fn mark_range(set: &mut [bool; CELLS], from: usize, end: usize)
+    requires { ⌜ (length (now set) ≡ 4096) × (end ≤ 4096) ⌝ }
+    ensures { λ _. ⌜ Adds (now (set .entry)) (now (set .exit)) (stepped 1 from end) ⌝ }
 {
     let mut c = from;
     while c < end {
         set[c] = true;
         c += 1;
+    }
+}
+
+// Marks the cells of a record with a step.
+fn mark_steps(set: &mut [bool; CELLS], cells: Span)
+    requires { ⌜ (length (now set) ≡ 4096) × (cells .to ≤ 4096) × (1 ≤ cells .step) × (cells .step < 256) ⌝ }
+    ensures { λ _. ⌜ Adds (now (set .entry)) (now (set .exit)) (stepped (cells .step) (cells .from) (cells .to)) ⌝ }
+{
+    let to = cells.to;
+    let step = cells.step;
+    let mut c = cells.from;
+    while c < to {
+        set[c] = true;
+        c += step;
+    }
+}
+
+// Marks the cells of a record. Without a step a loop of its own takes them many at a time.
+pub fn mark(set: &mut [bool; CELLS], cells: Span)
+    requires { ⌜ (length (now set) ≡ 4096) × (cells .to ≤ 4096) × (1 ≤ cells .step) × (cells .step < 256) ⌝ }
+    ensures { λ _. ⌜ Adds (now (set .entry)) (now (set .exit)) (stepped (cells .step) (cells .from) (cells .to)) ⌝ }
+{
+    if cells.step <= 1 {
+        mark_range(set, cells.from, cells.to);
+    } else {
+        mark_steps(set, cells);
     }
 }
 
@@ -46,7 +73,7 @@ pub fn mark_both(set: &mut [bool; CELLS], one: &[bool; CELLS], two: &[bool; CELL
 
 // Marks the cells of a write with the fields x, if on the side for its array; of another record none.
 pub fn mark_record(starts: &[u16; STARTS], sides: &[u8; NAMES], set: &mut [bool; CELLS], x: Fields)
-    requires { ⌜ (length (now set) ≡ 4096) × (x .kind ≡ 2 → (x .array < 32) × (x .p ≤ x .q) × (getD (now starts) (x .array) 0 + x .q ≤ 4096)) ⌝ }
+    requires { ⌜ (length (now set) ≡ 4096) × (x .kind ≡ 2 → (x .array < 32) × (getD (now starts) (x .array) 0 + x .q ≤ 4096)) ⌝ }
     ensures { λ _. ⌜ Adds (now (set .entry)) (now (set .exit)) (hits (now (starts .entry)) (now (sides .entry)) x) ⌝ }
 {
     if x.kind != WRITE {
@@ -55,7 +82,7 @@ pub fn mark_record(starts: &[u16; STARTS], sides: &[u8; NAMES], set: &mut [bool;
     let a = x.array as usize;
     if x.side == sides[a] {
         let cells = cells_of(x, starts);
-        mark(set, cells.from, cells.to);
+        mark(set, cells);
     }
 }
 

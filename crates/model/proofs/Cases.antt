@@ -9,8 +9,8 @@ use Rattle.model.specs.Sides.{card}
 use Rattle.model.specs.Records.{write, covers}
 use Rattle.model.specs.Blocks.{done, fixed, _⨾_}
 use Rattle.model.specs.Runs.{here, onward}
-use Rattle.model.specs.Judging.{at-end, leaving}
-use Rattle.model.specs.Cases.{Case, _on_, twelve, AllAnswer, StopsFirstAt2, nearly, fixed-counts, single, MetInside}
+use Rattle.model.specs.Judging.{at-end, passing, leaving, itself, always-writes}
+use Rattle.model.specs.Cases.{Case, every, _on_, twelve, AllAnswer, StopsFirstAt2, nearly, fixed-counts, single, MetInside, steps, MetTogether}
 use Rattle.model.specs.Claims.{ClaimCases}
 use Rattle.model.specs.Inner.Holders.{holder}
 use Rattle.model.proofs.Numbering.{span-within}
@@ -46,6 +46,21 @@ met-inside = (
   λ r. true≢false (sym (r .written .0 refl 0 refl (false ∷ []) [] [] (leaving at-end))),
 )
 
+together : (c : ℕ) → c < 4 → always-writes (single 4) card c (every 2 0 4 write card ⨾ every 2 1 4 write card ⨾ done) ≡ true
+unfolding covers sum-before
+together zero h = refl
+together (suc zero) h = refl
+together (suc (suc zero)) h = refl
+together (suc (suc (suc zero))) h = refl
+together (suc (suc (suc (suc c)))) h = absurd (omega arith)
+
+met-together : MetTogether
+unfolding covers sum-before
+met-together = (
+  record { once = refl; permitted = refl; written = (λ m c i. always-written (single 4) card c (every 2 0 4 write card ⨾ every 2 1 4 write card ⨾ done) .0 (together c (span-within (single 4) 0 c i)), tt) },
+  λ r. true≢false (sym (r .written .0 refl 1 refl [] [] (every 2 0 4 write card ∷ []) (passing itself at-end))),
+)
+
 pub cases : ClaimCases
 unfolding has has-all unmet lower equal covers sum-before holder
-cases = (all-answer twelve refl refl, stops-first, all-answer nearly refl refl, all-answer fixed-counts refl refl, met-inside)
+cases = (all-answer twelve refl refl, stops-first, all-answer nearly refl refl, all-answer fixed-counts refl refl, met-inside, all-answer steps refl refl, met-together)

@@ -20,7 +20,7 @@ use Rattle.model.proofs.Demand3.{demand3}
 
 -- of both cells
 abbrev of-both : Verb → Side → Action
-of-both v s = record { verb = v; side = s; name = 0; p = 0; q = 2 }
+of-both v s = record { verb = v; side = s; name = 0; step = 0; p = 0; q = 2 }
 
 abbrev fill : Pass
 fill = record { declarations = record { mode = W; side = card; array = 0 } ∷ []; body = act 0 (of-both write card) Block.done }

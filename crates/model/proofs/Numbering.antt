@@ -1,16 +1,20 @@
 -- Cells numbered through all arrays: a cell is in the span of one array, which is its own,
--- and the cells P to Q − 1 of an array are those from first + P up to first + Q.
-use Prim.Native.Nat.{ℕ, zero, suc, _+_, _-_, _≤_, _<_, min}
+-- and the cells P to Q − 1 of an array are those from first + P up to first + Q, of which a step takes one in so many.
+use Prim.Native.Nat.{ℕ, zero, suc, _+_, _-_, _*_, _/_, _%_, _≤_, _<_, min}
 use mathlib.Core.Path.{_≡_, refl, sym, ap, _∙_}
 use mathlib.Core.List.{List, [], _∷_}
 use mathlib.Core.Bool.{Bool, true, false, cond, _&&_, and-true, and-false}
+use native.Mathlib.Nat.{add-sub-cancel-left, suc-mul, zero-mod, mod-one, mod-lt, mod-eq-of-lt, mod-eq-sub-mod, mul-mod-left, div-add-mod', div-eq-of-lt, add-div-right}
+use native.Mathlib.Decide.{decLt}
+use native.Mathlib.Numerals.{add-one}
 use native.Mathlib.Omega.{arith}
+use lib.Arith.{digits-div}
 use lib.ListN.{getD}
 use lib.Dec.{leb, ltb, eqb}
-use borrow.Author.Tests.{ltb-true, ltb-false, lt-ltb, leb-true, leb-false, le-leb, eqb-true, eq-eqb}
+use borrow.Author.Tests.{ltb-true, ltb-false, lt-ltb, le-ltb, leb-true, leb-false, le-leb, lt-leb, eqb-true, eqb-false, eq-eqb, ne-eqb}
 use Rattle.model.specs.Lists.{sum, sum-before, how-many}
 use Rattle.model.specs.Sides.{Layout, cell-count, span-of, in-span}
-use Rattle.model.specs.Records.{whole, Action, covers, cover-count}
+use Rattle.model.specs.Records.{whole, Action, distance, stepped, covers, cover-count}
 use Rattle.model.specs.Claims.{ClaimCells, ClaimCovers}
 use Rattle.model.specs.Inner.Holders.{holder, array-of}
 use Rattle.model.proofs.Booleans.{and-out, and-in}
@@ -50,16 +54,82 @@ ends-within [] a = omega arith
 ends-within (n ∷ l) zero = omega arith
 ends-within (n ∷ l) (suc a) = let h = ends-within l a in omega arith
 
--- how many numbers below n are in a range
-between : (f : ℕ → Bool) (low high n : ℕ) → ((c : ℕ) → f c ≡ (leb low c && ltb c high)) → how-many f n ≡ min n high - low
-between f low high zero h = omega arith
-between f low high (suc n) h = rw (h n) (go (between f low high n h) (leb low n) refl (ltb n high) refl)
+-- a number is stepped on if it lies so many steps after the first
+pub on-step : (k low high c : ℕ) → stepped k low high c ≡ true → (i : ℕ) × (c ≡ low + i * k) × (c < high)
+on-step k low high c e =
+    let w₁ = and-out (leb low c) (ltb c high && eqb ((c - low) % k) 0) e in
+    let w₂ = and-out (ltb c high) (eqb ((c - low) % k) 0) (w₁ .1) in
+    let from = leb-true low c (w₁ .0) in
+    let last = eqb-true ((c - low) % k) 0 (w₂ .1) in
+    ((c - low) / k, omega (arith, div-add-mod' (c - low) k), ltb-true c high (w₂ .0))
+
+pub step-on : (k low high i : ℕ) → low + i * k < high → stepped k low high (low + i * k) ≡ true
+step-on k low high i h = rw (le-leb low (low + i * k) (omega arith), lt-ltb (low + i * k) high h, add-sub-cancel-left low (i * k), mul-mod-left i k)
+
+pub stepped-bounds : (k low high c : ℕ) → stepped k low high c ≡ true → (low ≤ c) × (c < high)
+stepped-bounds k low high c e = let w = on-step k low high c e in (omega (arith, w .1), w .2)
+
+-- "0 and 1 mean each cell"
+pub stepped-one : (low high c : ℕ) → stepped 1 low high c ≡ (leb low c && ltb c high)
+stepped-one low high c = rw (eq-eqb ((c - low) % 1) 0 (mod-one (c - low)), and-true (ltb c high))
+
+-- of the numbers c, c + k and so on below `to`, c is the first, the others are those from c + k on, and from `to` on there is none
+module _ (k c to : ℕ) where
+  pub stepped-first : c < to → stepped k c to c ≡ true
+  stepped-first h =
+      let z : c - c ≡ 0 = omega arith in
+      and-in (leb c c) _ (le-leb c c (omega arith)) (and-in (ltb c to) _ (lt-ltb c to h) (eq-eqb ((c - c) % k) 0 (ap (λ d. d % k) z ∙ zero-mod k)))
+
+  pub stepped-next : 1 ≤ k → (n : ℕ) → (n ≡ c → ⊥) → stepped k (c + k) to n ≡ stepped k c to n
+  stepped-next some n e = elim (decLt n (c + k)) [
+    | yes h ↦ elim (decLt n c) [
+      | yes g ↦ rw (lt-leb (c + k) n h, lt-leb c n g)
+      | no g ↦
+          let z = mod-eq-of-lt {n = n - c} {m = k} (omega arith) in
+          rw (lt-leb (c + k) n h, ne-eqb ((n - c) % k) 0 (λ q. e (omega arith)), and-false (ltb n to), and-false (leb c n))
+    ]
+    | no h ↦
+        let z : n - c - k ≡ n - (c + k) = omega arith in
+        rw (le-leb (c + k) n (omega arith), le-leb c n (omega arith), mod-eq-sub-mod {n = n - c} {m = k} (omega arith), z)
+  ]
+
+  pub stepped-none : to ≤ c → (n : ℕ) → stepped k c to n ≡ false
+  stepped-none h n = elim (decLt n c) [
+    | yes g ↦ rw (lt-leb c n g)
+    | no g ↦ rw (le-ltb n to (omega arith)) (and-false (leb c n))
+  ]
+
+-- division by the distance, rounded up: one more where a step begins
+module _ (k d : ℕ) (some : 1 ≤ k) where
+  ends-step : d % k ≡ 0 → (d + (k - 1)) / k ≡ d / k
+  ends-step e = ap (λ n. n / k) (omega (arith, div-add-mod' d k)) ∙ digits-div (d / k) {m = k} {r = k - 1} (omega arith)
+
+  in-step : 0 < d % k → (d + (k - 1)) / k ≡ suc (d / k)
+  in-step h =
+      ap (λ n. n / k) (omega (arith, div-add-mod' d k, suc-mul (d / k) k)) ∙ digits-div (suc (d / k)) {m = k} {r = d % k - 1} (omega (arith, mod-lt d {m = k} some))
+
+  next-step : cond (eqb (d % k) 0) (suc ((d + (k - 1)) / k)) ((d + (k - 1)) / k) ≡ (suc d + (k - 1)) / k
+  next-step = go (eqb (d % k) 0) refl ∙ sym (add-div-right d {k = k} some ∙ add-one (d / k)) ∙ ap (λ n. n / k) (omega arith)
+    where
+      go : (b : Bool) → eqb (d % k) 0 ≡ b → cond b (suc ((d + (k - 1)) / k)) ((d + (k - 1)) / k) ≡ suc (d / k)
+      go true e = ap suc (ends-step (eqb-true _ 0 e))
+      go false e = let n = eqb-false (d % k) 0 e in in-step (omega arith)
+
+-- how many numbers below n are stepped on
+stepped-count : (f : ℕ → Bool) (k low high n : ℕ) → 1 ≤ k → ((c : ℕ) → f c ≡ stepped k low high c) → how-many f n ≡ (min n high - low + (k - 1)) / k
+stepped-count f k low high zero some h = sym (div-eq-of-lt (omega arith))
+stepped-count f k low high (suc n) some h = rw (h n) (go (stepped-count f k low high n some h) (leb low n) refl (ltb n high) refl)
   where
-    go : how-many f n ≡ min n high - low → (a : Bool) → leb low n ≡ a → (b : Bool) → ltb n high ≡ b →
-        cond (a && b) (suc (how-many f n)) (how-many f n) ≡ min (suc n) high - low
-    go before true p true q = let i = leb-true low n p in let j = ltb-true n high q in omega arith
-    go before true p false q = let j = ltb-false n high q in omega arith
-    go before false p b q = let i = leb-false low n p in omega arith
+    go : how-many f n ≡ (min n high - low + (k - 1)) / k → (a : Bool) → leb low n ≡ a → (b : Bool) → ltb n high ≡ b →
+        cond (a && (b && eqb ((n - low) % k) 0)) (suc (how-many f n)) (how-many f n) ≡ (min (suc n) high - low + (k - 1)) / k
+    go before true p true q =
+        let i = leb-true low n p in
+        let j = ltb-true n high q in
+        let here : min n high - low ≡ n - low = omega arith in
+        let next : min (suc n) high - low ≡ suc (n - low) = omega arith in
+        rw (before, here, next) (next-step k (n - low) some)
+    go before true p false q = let j = ltb-false n high q in before ∙ ap (λ m. (m + (k - 1)) / k) (omega arith)
+    go before false p b q = let i = leb-false low n p in before ∙ ap (λ m. (m + (k - 1)) / k) (omega arith)
 
 module _ (layout : Layout) where
   -- a cell is one of its array's cells
@@ -111,31 +181,31 @@ module _ (layout : Layout) where
   unfolding covers
   covers-whole x c w = rw w (and-true (in-span (span-of layout (x .name)) c))
 
-  -- else, where they end within it, they are one range of cell numbers
+  -- else, where they end within it, they are the cell numbers of one range that are stepped on
   pub covers-range : (x : Action) (c : ℕ) → whole (x .verb) ≡ false → x .q ≤ span-of layout (x .name) .length →
-      covers layout x c ≡ (leb (span-of layout (x .name) .first + x .p) c && ltb c (span-of layout (x .name) .first + x .q))
+      covers layout x c ≡ stepped (distance (x .step)) (span-of layout (x .name) .first + x .p) (span-of layout (x .name) .first + x .q) c
   unfolding covers
-  covers-range x c w h = rw w (go (leb (span-of layout (x .name) .first + x .p) c && ltb c (span-of layout (x .name) .first + x .q)) refl)
+  covers-range x c w h = rw w (go (stepped (distance (x .step)) (span-of layout (x .name) .first + x .p) (span-of layout (x .name) .first + x .q) c) refl)
     where
-      go : (b : Bool) → (leb (span-of layout (x .name) .first + x .p) c && ltb c (span-of layout (x .name) .first + x .q)) ≡ b → (in-span (span-of layout (x .name)) c && b) ≡ b
+      go : (b : Bool) → stepped (distance (x .step)) (span-of layout (x .name) .first + x .p) (span-of layout (x .name) .first + x .q) c ≡ b → (in-span (span-of layout (x .name)) c && b) ≡ b
       go true e =
-          let p = and-out (leb (span-of layout (x .name) .first + x .p) c) (ltb c (span-of layout (x .name) .first + x .q)) e in
-          let low = leb-true (span-of layout (x .name) .first + x .p) c (p .0) in
-          let high = ltb-true c (span-of layout (x .name) .first + x .q) (p .1) in
-          rw (bounds-in (x .name) c (omega arith) (omega arith))
+          let p = stepped-bounds (distance (x .step)) (span-of layout (x .name) .first + x .p) (span-of layout (x .name) .first + x .q) c e in
+          rw (bounds-in (x .name) c (omega (arith, p .0)) (omega (arith, p .1)))
       go false e = and-false (in-span (span-of layout (x .name)) c)
 
   -- how many they are
-  pub ranged-count : (x : Action) → whole (x .verb) ≡ false → x .q ≤ span-of layout (x .name) .length → cover-count layout x ≡ x .q - x .p
+  pub ranged-count : (x : Action) → whole (x .verb) ≡ false → x .q ≤ span-of layout (x .name) .length →
+      cover-count layout x ≡ (x .q - x .p + (distance (x .step) - 1)) / distance (x .step)
   unfolding cover-count
   ranged-count x w h =
-      between (covers layout x) (span-of layout (x .name) .first + x .p) (span-of layout (x .name) .first + x .q) (cell-count layout) (λ c. covers-range x c w h)
-      ∙ omega (arith, array-ends (x .name))
+      stepped-count (covers layout x) (distance (x .step)) (span-of layout (x .name) .first + x .p) (span-of layout (x .name) .first + x .q) (cell-count layout) (omega arith) (λ c. covers-range x c w h)
+      ∙ ap (λ n. (n + (distance (x .step) - 1)) / distance (x .step)) (omega (arith, array-ends (x .name)))
 
   pub whole-count : (x : Action) → whole (x .verb) ≡ true → cover-count layout x ≡ span-of layout (x .name) .length
   unfolding cover-count
   whole-count x w =
-      between (covers layout x) (span-of layout (x .name) .first) (span-of layout (x .name) .first + span-of layout (x .name) .length) (cell-count layout) (λ c. covers-whole x c w)
+      let first = span-of layout (x .name) .first in
+      stepped-count (covers layout x) 1 first (first + span-of layout (x .name) .length) (cell-count layout) (omega arith) (λ c. covers-whole x c w ∙ sym (stepped-one first _ c))
       ∙ omega (arith, array-ends (x .name))
 
 pub one-array : ClaimCells
@@ -145,9 +215,9 @@ pub these-cells : ClaimCovers
 these-cells layout x w h = (
   ranged-count layout x w h,
   λ c.
-      let first = span-of layout (x .name) .first in
-      let range = covers-range layout x c w h in (
-        λ e. let p = and-out (leb (first + x .p) c) (ltb c (first + x .q)) (sym range ∙ e) in (leb-true (first + x .p) c (p .0), ltb-true c (first + x .q) (p .1)),
-        λ p. range ∙ and-in (leb (first + x .p) c) (ltb c (first + x .q)) (le-leb (first + x .p) c (p .0)) (lt-ltb c (first + x .q) (p .1)),
-      ),
+      let k = distance (x .step) in
+      let low = span-of layout (x .name) .first + x .p in
+      let high = span-of layout (x .name) .first + x .q in
+      let range = covers-range layout x c w h in
+      (λ e. on-step k low high c (sym range ∙ e), λ p. range ∙ rw (p .1) (step-on k low high (p .0) (rw (p .1) at (p .2)))),
 )

@@ -68,7 +68,7 @@ write-or-quiet x σ = go (x .verb)
 
 -- a record with another verb
 abbrev pub as-verb : Verb → Action → Action
-as-verb v x = record { verb = v; side = x .side; name = x .name; p = x .p; q = x .q }
+as-verb v x = record { verb = v; side = x .side; name = x .name; step = x .step; p = x .p; q = x .q }
 
 -- the stamps of one cell
 abbrev OldCell : ℕ → Stamps → Type 0

@@ -1,5 +1,5 @@
 -- The twelve cases (document 01, 'Twelve cases, one array of one cell unless said'), in one table, the plan of 'Checkers that would nearly
--- do', and cases of fixed loops (document 02, request a).
+-- do', and cases of fixed loops and of steps (document 02, requests a and c).
 use Prim.Native.Nat.{ℕ}
 use mathlib.Core.Bool.{Bool, true}
 use mathlib.Core.List.{List, [], _∷_}
@@ -27,13 +27,17 @@ single n = record { lengths = n ∷ [] }
 abbrev pub case : ℕ → Block Action → Verdict → Case
 case n b v = record { plan = record { layout = single n; body = numbered 0 b }; answer = v }
 
--- a record of cell 0 of array 0, and of its cells 0 and 1
+-- a record of array 0 with a step, P and Q
+abbrev pub every : ℕ → ℕ → ℕ → Verb → Side → Action
+every step p q v s = record { verb = v; side = s; name = 0; step = step; p = p; q = q }
+
+-- one of cell 0, and one of cells 0 and 1
 infix 70 _on_ _on-both_
 abbrev pub _on_ : Verb → Side → Action
-v on s = record { verb = v; side = s; name = 0; p = 0; q = 1 }
+v on s = every 0 0 1 v s
 
 abbrev pub _on-both_ : Verb → Side → Action
-v on-both s = record { verb = v; side = s; name = 0; p = 0; q = 2 }
+v on-both s = every 0 0 2 v s
 
 -- "10 loop (read host, read card, write card): a run proper that takes a turn stops first at 2, the answer is 1."
 abbrev pub case10 : Case
@@ -99,6 +103,24 @@ abbrev pub MetInside : Type 0
 MetInside =
     Rules (single 1) (filling (fixed 0 1 (write on card ⨾ done) done))
     × (Rules (single 1) (filling (loop 0 (write on card ⨾ done) done)) → ⊥)
+
+-- "0 and 1 mean each cell, k means P, P + k and so on below Q.", of four cells
+abbrev pub steps : List Case
+steps =
+    -- write card every 2nd cell from 0, read host every 2nd from 1: accepted
+    case 4 (every 2 0 4 write card ⨾ every 2 1 4 read host ⨾ done) Accepted
+    -- the same with a step of 1, and of 0, in the read: record 1, cell 2
+    ∷ case 4 (every 2 0 4 write card ⨾ every 1 1 4 read host ⨾ done) (stopped-at 1 2)
+    ∷ case 4 (every 2 0 4 write card ⨾ every 0 1 4 read host ⨾ done) (stopped-at 1 2)
+    -- write card every 3rd cell from 0 below 3, which is cell 0, read host cells 1 to 3: accepted
+    ∷ case 4 (every 3 0 3 write card ⨾ every 0 1 4 read host ⨾ done) Accepted
+    ∷ []
+
+-- two writes of every 2nd cell meet a W together, one of them does not
+abbrev pub MetTogether : Type 0
+MetTogether =
+    Rules (single 4) (filling (every 2 0 4 write card ⨾ every 2 1 4 write card ⨾ done))
+    × (Rules (single 4) (filling (every 2 0 4 write card ⨾ done)) → ⊥)
 
 -- every row's answer is the check's
 abbrev pub AllAnswer : List Case → Type 0

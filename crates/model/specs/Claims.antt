@@ -1,5 +1,5 @@
 -- What is proved of these definitions: each theorem that a reader relies on, by name, with the place of its proof.
-use Prim.Native.Nat.{ℕ, suc, _+_, _-_, _≤_, _<_}
+use Prim.Native.Nat.{ℕ, suc, _+_, _-_, _*_, _/_, _≤_, _<_}
 use mathlib.Core.Path.{_≡_}
 use mathlib.Core.Logic.{_↔_}
 use mathlib.Core.Bool.{Bool, true, false}
@@ -8,14 +8,14 @@ use Rattle.model.specs.declared.Verdict.{Verdict}
 use Rattle.model.specs.declared.Verdict.the-variants.{Accepted}
 use Rattle.model.specs.Lists.{any}
 use Rattle.model.specs.Sides.{Side, at, Layout, cell-count, span-of, in-span}
-use Rattle.model.specs.Records.{whole, Action, covers, cover-count}
+use Rattle.model.specs.Records.{whole, Action, distance, covers, cover-count}
 use Rattle.model.specs.Blocks.{Block, Plan}
 use Rattle.model.specs.Runs.{Config, Ending, finished, stopped, proper, carried-on, Run, Ends, tally}
 use Rattle.model.specs.Check.{Answers}
 use Rattle.model.specs.Judging.{DeclaredPlan, Way, Itself, writes-cell, always-writes, Accepts}
 use Rattle.model.specs.Expanding.{expansion}
 use Rattle.model.specs.Demand.{latest-write, events-of, ExactMoves, Demand3}
-use Rattle.model.specs.Cases.{twelve, AllAnswer, StopsFirstAt2, nearly, fixed-counts, MetInside}
+use Rattle.model.specs.Cases.{twelve, AllAnswer, StopsFirstAt2, nearly, fixed-counts, MetInside, steps, MetTogether}
 
 -- CLAIM (proofs/Numbering, `one-array`): "Cells are numbered from 0 through all arrays in order": each cell is in one array, and in one
 -- only
@@ -23,13 +23,15 @@ abbrev pub ClaimCells : Type 0
 ClaimCells = (layout : Layout) (c : ℕ) → c < cell-count layout →
     (a : ℕ) × (in-span (span-of layout a) c ≡ true) × ((b : ℕ) → in-span (span-of layout b) c ≡ true → b ≡ a)
 
--- CLAIM (proofs/Numbering, `these-cells`): "cells P to Q − 1 of the array, P < Q ≤ its length": a record that names cells covers these and
--- no others
+-- CLAIM (proofs/Numbering, `these-cells`): "cells P to Q − 1 of the array, P < Q ≤ its length", with a step "P, P + k and so on below
+-- Q": a record that names cells covers these and no others, and so many
 abbrev pub ClaimCovers : Type 0
 ClaimCovers = (layout : Layout) (x : Action) →
     let these = span-of layout (x .name) in
+    let k = distance (x .step) in
     whole (x .verb) ≡ false → x .q ≤ these .length →
-    (cover-count layout x ≡ x .q - x .p) × ((c : ℕ) → (covers layout x c ≡ true) ↔ ((these .first + x .p ≤ c) × (c < these .first + x .q)))
+    (cover-count layout x ≡ (x .q - x .p + (k - 1)) / k)
+    × ((c : ℕ) → (covers layout x c ≡ true) ↔ ((i : ℕ) × (c ≡ these .first + x .p + i * k) × (c < these .first + x .q)))
 
 -- CLAIM (proofs/Stamps, `latest-tracked`): in every carried-on run a cell's latest stamp is that of its latest write
 abbrev pub ClaimLatest : Type 0
@@ -59,9 +61,9 @@ abbrev pub ClaimAccepted : Type 0
 ClaimAccepted = (plan : Plan) → Answers plan Accepted ↔ ((cs : List Bool) (k : Config) (r c : ℕ) → Ends plan cs k (stopped r c) → ⊥)
 
 -- CLAIM (proofs/Cases, `cases`): the twelve cases have these answers, case 10 has its run proper, the plan of 'Checkers that would nearly
--- do' is accepted, the cases of fixed loops have these answers, and a W is met inside one
+-- do' is accepted, the cases of fixed loops and of steps have these answers, and a W is met inside a fixed loop and by steps together
 abbrev pub ClaimCases : Type 0
-ClaimCases = AllAnswer twelve × StopsFirstAt2 × AllAnswer nearly × AllAnswer fixed-counts × MetInside
+ClaimCases = AllAnswer twelve × StopsFirstAt2 × AllAnswer nearly × AllAnswer fixed-counts × MetInside × AllAnswer steps × MetTogether
 
 -- CLAIM (proofs/Written, `always-written`): the test of a W is exact: it passes exactly if every way through the block writes the cell
 abbrev pub ClaimWritten : Type 0

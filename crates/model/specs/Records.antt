@@ -1,5 +1,5 @@
--- Records that act, and the cells that they cover (document 01, 'The plan file').
-use Prim.Native.Nat.{ℕ, _+_}
+-- Records that act, and the cells that they cover (document 01, 'The plan file'; document 02, request c).
+use Prim.Native.Nat.{ℕ, _+_, _-_, _%_, max}
 use mathlib.Core.Bool.{Bool, _&&_, _||_}
 use lib.Dec.{ltb, leb, eqb}
 use Rattle.model.specs.Lists.{how-many}
@@ -25,23 +25,32 @@ same-verb v w = eqb (kind v) (kind w)
 abbrev pub whole : Verb → Bool
 whole v = leb 4 (kind v)
 
--- "A record: kind, side, array, zero, then two numbers of two bytes, P and Q."
+-- "A record: kind, side, array, zero, then two numbers of two bytes, P and Q."; "Byte 3 of kinds 1 to 3 becomes a step"
 pub record Action : Type 0 where
   pub verb : Verb
   pub side : Side
   pub name : ℕ
+  pub step : ℕ
   pub p : ℕ
   pub q : ℕ
 
 -- a need or a mark of an array on a side; "Unused fields are zero."
 abbrev pub whole-of : Verb → Side → ℕ → Action
-whole-of v s n = record { verb = v; side = s; name = n; p = 0; q = 0 }
+whole-of v s n = record { verb = v; side = s; name = n; step = 0; p = 0; q = 0 }
 
--- whether a record covers cell c: "cells P to Q − 1 of the array", or all of them
+-- "0 and 1 mean each cell, k means P, P + k and so on below Q": how far apart the cells are
+abbrev pub distance : ℕ → ℕ
+distance step = max 1 step
+
+-- the numbers `from`, `from` + k and so on below `to`: whether n is one of them
+abbrev pub stepped : ℕ → ℕ → ℕ → ℕ → Bool
+stepped k from to n = leb from n && (ltb n to && eqb ((n - from) % k) 0)
+
+-- whether a record covers cell c: of "cells P to Q − 1 of the array" those on its step, or all cells of the array
 unfoldable pub covers : Layout → Action → ℕ → Bool
 covers layout x c =
     let these = span-of layout (x .name) in
-    in-span these c && (whole (x .verb) || (leb (these .first + x .p) c && ltb c (these .first + x .q)))
+    in-span these c && (whole (x .verb) || stepped (distance (x .step)) (these .first + x .p) (these .first + x .q) c)
 
 -- how many cells it covers
 unfoldable pub cover-count : Layout → Action → ℕ

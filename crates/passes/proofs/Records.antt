@@ -38,21 +38,21 @@ module _ (f : List ℕ) (x : Fields) (fits : fields-fit f x ≡ true) where
   declaration-fits h k =
       let on-side = ltb (x .side) 2 in
       let on-array = ltb (x .array) (array-count f) in
-      let last-zero = eqb (x .zero) 0 in
-      let w₁ = and-out (on-side && on-array && last-zero && eqb (x .p) 0) _ (fit-declaration f x _ _ _ sizes h k ∙ fits) in
-      let w₂ = and-out (on-side && on-array && last-zero) _ (w₁ .0) in
+      let no-step = eqb (x .step) 0 in
+      let w₁ = and-out (on-side && on-array && no-step && eqb (x .p) 0) _ (fit-declaration f x _ _ _ sizes h k ∙ fits) in
+      let w₂ = and-out (on-side && on-array && no-step) _ (w₁ .0) in
       let w₃ = and-out (on-side && on-array) _ (w₂ .0) in
       let w₄ = and-out on-side _ (w₃ .0) in
       (ltb-true _ _ (w₄ .0), ltb-true _ _ (w₄ .1))
 
-  no-array : (eqb (x .side) 0 && eqb (x .array) 0 && eqb (x .zero) 0) ≡ true → x .array ≡ 0
+  no-array : (eqb (x .side) 0 && eqb (x .array) 0 && eqb (x .step) 0) ≡ true → x .array ≡ 0
   no-array e = eqb-true _ _ (and-out (eqb (x .side) 0) _ (and-out (eqb (x .side) 0 && eqb (x .array) 0) _ e .0) .1)
 
   nested-array : nests x ≡ true → x .array ≡ 0
   nested-array n = elim (shape x) [
     | is-branch k ↦ no-array (fit-branch f x _ _ _ sizes k ∙ fits)
-    | is-loop k ↦ no-array (and-out (eqb (x .side) 0 && eqb (x .array) 0 && eqb (x .zero) 0) _ (fit-loop f x _ _ _ sizes k ∙ fits) .0)
-    | is-fixed k ↦ no-array (and-out (eqb (x .side) 0 && eqb (x .array) 0 && eqb (x .zero) 0) _ (fit-fixed f x _ _ _ sizes k ∙ fits) .0)
+    | is-loop k ↦ no-array (and-out (eqb (x .side) 0 && eqb (x .array) 0 && eqb (x .step) 0) _ (fit-loop f x _ _ _ sizes k ∙ fits) .0)
+    | is-fixed k ↦ no-array (and-out (eqb (x .side) 0 && eqb (x .array) 0 && eqb (x .step) 0) _ (fit-fixed f x _ _ _ sizes k ∙ fits) .0)
     | is-leaf e ↦ absurd (true≢false (sym n ∙ e))
   ]
 

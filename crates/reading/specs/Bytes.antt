@@ -88,7 +88,7 @@ fields-at f r =
       kind = byte-at f i;
       side = byte-at f (i + 1);
       array = byte-at f (i + 2);
-      zero = byte-at f (i + 3);
+      step = byte-at f (i + 3);
       p = u16-at f (i + 4);
       q = u16-at f (i + 6);
     }

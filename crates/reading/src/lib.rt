@@ -3,7 +3,7 @@ ghost use mathlib.Core.Path.{_≡_};
 ghost use Prim.Native.Nat.{_+_, _*_, _≤_, _<_};
 ghost use lib.ListN.{length, getD};
 ghost use Rattle.reading.specs.Bytes.{byte-at, u16-at, entry-at, bodies-at, fields-at, nests, first-arm, second-arm, turns-of};
-ghost use Rattle.reading.specs.Inner.Cells.{from-of, to-of};
+ghost use Rattle.reading.specs.Inner.Cells.{from-of, to-of, step-of};
 use kinds::BRANCH;
 use kinds::COPY;
 use kinds::FIXED;
@@ -17,7 +17,7 @@ pub struct Fields {
     pub kind: u8,
     pub side: u8,
     pub array: u8,
-    pub zero: u8,
+    pub step: u8,
     pub p: u16,
     pub q: u16,
 }
@@ -63,7 +63,7 @@ pub fn record_at(plan: &[u8], bodies: usize, r: usize) -> Fields
         kind: plan[at],
         side: plan[at + 1],
         array: plan[at + 2],
-        zero: plan[at + 3],
+        step: plan[at + 3],
         p: number_at(plan, at + 4),
         q: number_at(plan, at + 6),
     }
@@ -100,10 +100,11 @@ pub fn turns_of(x: Fields) -> usize
     if x.kind == FIXED { x.q as usize } else { 1 }
 }
 
-// The cells of a record: the first, and the one after the last.
+// The cells of a record: the first, the one after the last, and how far apart they are.
 pub struct Span {
     pub from: usize,
     pub to: usize,
+    pub step: usize,
 }
 
 // A number of two bytes as a place.
@@ -133,11 +134,26 @@ pub fn next_cell(x: Fields, first: u16, next: u16) -> usize
     place(next)
 }
 
+// How far apart its cells are.
+pub fn step_of(x: Fields) -> usize
+    ensures step { λ r. ⌜ r ≡ step-of x ⌝ }
+    ensures low { λ r. ⌜ (1 ≤ r) × (r < 256) ⌝ }
+{
+    if COPY < x.kind {
+        return 1;
+    }
+    if x.step <= 1 {
+        return 1;
+    }
+    x.step as usize
+}
+
 // Which cells a record with the fields x covers. `starts` has the first cell of each array, and after the last array the number of cells.
 pub fn cells_of(x: Fields, starts: &[u16; STARTS]) -> Span
     requires { ⌜ x .array < 32 ⌝ }
     ensures from { λ s. ⌜ s .from ≡ from-of x (getD (now (starts .entry)) (x .array) 0) ⌝ }
     ensures to { λ s. ⌜ s .to ≡ to-of x (getD (now (starts .entry)) (x .array) 0) (getD (now (starts .entry)) (x .array + 1) 0) ⌝ }
+    ensures step { λ s. ⌜ s .step ≡ step-of x ⌝ }
 {
     let a = x.array as usize;
     let first = starts[a];
@@ -145,5 +161,6 @@ pub fn cells_of(x: Fields, starts: &[u16; STARTS]) -> Span
     Span {
         from: first_cell(x, first),
         to: next_cell(x, first, next),
+        step: step_of(x),
     }
 }

@@ -13,19 +13,19 @@ fields-fit f x =
     let on-side = ltb (x .side) 2 in
     let on-array = ltb (x .array) (array-count f) in
     let names-none = eqb (x .side) 0 && eqb (x .array) 0 in
-    let fourth-zero = eqb (x .zero) 0 in
-    -- "1 read, 2 write, 3 copy: cells P to Q − 1 of the array, P < Q ≤ its length."
-    cond (between 1 3 (x .kind)) (on-side && on-array && fourth-zero && ltb (x .p) (x .q) && leb (x .q) (length-at f (x .array)))
+    let no-step = eqb (x .step) 0 in
+    -- "1 read, 2 write, 3 copy: cells P to Q − 1 of the array, P < Q ≤ its length."; "Number 8 no longer covers that byte there." (document 02)
+    cond (between 1 3 (x .kind)) (on-side && on-array && ltb (x .p) (x .q) && leb (x .q) (length-at f (x .array)))
     -- "4 need, 5 mark: side and array." "16 R, 17 W, 18 RW: side and array."
-    (cond (between 4 5 (x .kind) || between 16 18 (x .kind)) (on-side && on-array && fourth-zero && eqb (x .p) 0 && eqb (x .q) 0)
+    (cond (between 4 5 (x .kind) || between 16 18 (x .kind)) (on-side && on-array && no-step && eqb (x .p) 0 && eqb (x .q) 0)
     -- "6 branch: P records of the first arm, then Q of the second."
-    (cond (eqb (x .kind) 6) (names-none && fourth-zero)
+    (cond (eqb (x .kind) 6) (names-none && no-step)
     -- "7 loop: P records."
-    (cond (eqb (x .kind) 7) (names-none && fourth-zero && eqb (x .q) 0)
+    (cond (eqb (x .kind) 7) (names-none && no-step && eqb (x .q) 0)
     -- "8 call: P is a body, 1 to the last."
-    (cond (eqb (x .kind) 8) (names-none && fourth-zero && eqb (x .q) 0 && leb 1 (x .p) && ltb (x .p) (body-count f))
+    (cond (eqb (x .kind) 8) (names-none && no-step && eqb (x .q) 0 && leb 1 (x .p) && ltb (x .p) (body-count f))
     -- "P records, Q turns from 1 to 4,096" (document 02)
-    (cond (eqb (x .kind) 9) (names-none && fourth-zero && between 1 4096 (x .q))
+    (cond (eqb (x .kind) 9) (names-none && no-step && between 1 4096 (x .q))
     -- kinds 0, 10 to 15 "and 19 to 255 are unknown: number 9, no field tested."
     true)))))
 

@@ -53,15 +53,15 @@ pub fn fields_fit(plan: &[u8], x: Fields) -> bool
     let on_side = x.side < 2;
     let on_array = x.array < arrays;
     let names_none = (x.side == 0) & (x.array == 0);
-    let fourth_zero = x.zero == 0;
+    let no_step = x.step == 0;
     let kind = x.kind;
     match kind {
-        READ | WRITE | COPY => on_side & on_array & fourth_zero & (x.p < x.q) & (x.q <= size),
-        NEED | MARK | R | W | RW => on_side & on_array & fourth_zero & (x.p == 0) & (x.q == 0),
-        BRANCH => names_none & fourth_zero,
-        LOOP => names_none & fourth_zero & (x.q == 0),
-        CALL => names_none & fourth_zero & (x.q == 0) & (1 <= x.p) & (x.p < (bodies as u16)),
-        FIXED => names_none & fourth_zero & ((1 <= x.q) & (x.q <= MOST_TURNS)),
+        READ | WRITE | COPY => on_side & on_array & (x.p < x.q) & (x.q <= size),
+        NEED | MARK | R | W | RW => on_side & on_array & no_step & (x.p == 0) & (x.q == 0),
+        BRANCH => names_none & no_step,
+        LOOP => names_none & no_step & (x.q == 0),
+        CALL => names_none & no_step & (x.q == 0) & (1 <= x.p) & (x.p < (bodies as u16)),
+        FIXED => names_none & no_step & ((1 <= x.q) & (x.q <= MOST_TURNS)),
         0 | 10..=15 | 19..=255 => true,
     }
 }

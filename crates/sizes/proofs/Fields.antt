@@ -3,7 +3,6 @@ use mathlib.Core.Path.{_≡_, refl, sym, _∙_}
 use mathlib.Core.Bool.{Bool, true, false, true≢false, cond, _&&_}
 use mathlib.Core.List.{List}
 use Prim.Native.Nat.{ℕ, _≤_, _<_}
-use native.Mathlib.Decide.{decLt}
 use native.Mathlib.Omega.{arith}
 use lib.Dec.{ltb, leb, eqb}
 use borrow.Author.Tests.{ltb-true, leb-true, eqb-true}
@@ -13,67 +12,49 @@ use Rattle.reading.specs.declared.Fields.{Fields}
 use Rattle.reading.specs.Bytes.{array-count, body-count, length-at, nests, first-arm, second-arm}
 use Rattle.rules.specs.Rules.{fields-fit}
 use Rattle.format.specs.Plans.{action-of}
-use Rattle.format.proofs.Acts.{by-kind}
+use Rattle.format.proofs.Acts.{side-fits, by-kind}
 use Rattle.format.proofs.Trees.{is-branch, is-loop, is-fixed, is-leaf, shape}
 use Rattle.files.specs.Files.{fields, action-fields}
 use Rattle.files.proofs.Given.{side-again}
-use Rattle.rules.proofs.Fields.{Sizes, fit-cells, fit-array, fit-declaration, fit-branch, fit-loop, fit-call, fit-fixed}
+use Rattle.rules.proofs.Fields.{Sizes, fit-branch, fit-loop, fit-call, fit-fixed}
 use Rattle.sizes.specs.Inner.Sizes.{second-field}
 
 -- "Unused fields are zero"
-pub fields-are : (x : Fields) (kind side array p q : ℕ) → x .kind ≡ kind → x .side ≡ side → x .array ≡ array → x .zero ≡ 0 → x .p ≡ p → x .q ≡ q → x ≡ fields kind side array p q
-fields-are x kind side array p q e0 e1 e2 e3 e4 e5 = λ j. record { kind = e0 j; side = e1 j; array = e2 j; zero = e3 j; p = e4 j; q = e5 j }
+pub fields-are : (x : Fields) (kind side array p q : ℕ) → x .kind ≡ kind → x .side ≡ side → x .array ≡ array → x .step ≡ 0 → x .p ≡ p → x .q ≡ q → x ≡ fields kind side array p q
+fields-are x kind side array p q e0 e1 e2 e3 e4 e5 = λ j. record { kind = e0 j; side = e1 j; array = e2 j; step = e3 j; p = e4 j; q = e5 j }
 
 module _ (f : List ℕ) (x : Fields) (fits : fields-fit f x ≡ true) where
   sizes : Sizes f x (array-count f) (body-count f) (length-at f (x .array))
   sizes = record { arrays-are = refl; bodies-are = refl; size-is = refl }
 
-  -- what kinds 1 to 5 and 16 to 18 have in common
-  on-side : (b c : Bool) → (ltb (x .side) 2 && ltb (x .array) (array-count f) && eqb (x .zero) 0 && b && c) ≡ true → (x .side < 2) × (x .zero ≡ 0)
-  on-side b c e =
-      let w₁ = and-out (ltb (x .side) 2 && ltb (x .array) (array-count f) && eqb (x .zero) 0 && b) c e in
-      let w₂ = and-out (ltb (x .side) 2 && ltb (x .array) (array-count f) && eqb (x .zero) 0) b (w₁ .0) in
-      let w₃ = and-out (ltb (x .side) 2 && ltb (x .array) (array-count f)) (eqb (x .zero) 0) (w₂ .0) in
-      let w₄ = and-out (ltb (x .side) 2) (ltb (x .array) (array-count f)) (w₃ .0) in
-      (ltb-true _ _ (w₄ .0), eqb-true _ _ (w₃ .1))
-
-  pub declaration-side : 16 ≤ x .kind → x .kind ≤ 18 → x .side < 2
-  declaration-side h k = on-side _ _ (fit-declaration f x _ _ _ sizes h k ∙ fits) .0
-
-  action-side : 1 ≤ x .kind → x .kind ≤ 5 → (x .side < 2) × (x .zero ≡ 0)
-  action-side h k = elim (decLt 3 (x .kind)) [
-    | yes l ↦ on-side _ _ (fit-array f x _ _ _ sizes (omega arith) k ∙ fits)
-    | no l ↦ on-side _ _ (fit-cells f x _ _ _ sizes h (omega arith) ∙ fits)
-  ]
-
   -- "1 read, 2 write, 3 copy .. 4 need, 5 mark"
   pub action-again : 1 ≤ x .kind → x .kind ≤ 5 → action-fields (action-of x) ≡ x
   unfolding action-of
   action-again h k =
-      let w = action-side h k in
-      let same = by-kind x (h, k) (λ y. x .kind ≡ kind (y .verb)) (λ e. e) (λ e. e) (λ e. e) (λ e. e) (λ e. e) in
-      sym (fields-are x _ _ _ _ _ same (sym (side-again (x .side) (w .0))) refl (w .1) refl refl)
+      let same = by-kind x (h, k) (λ y. kind (y .verb) ≡ x .kind) sym sym sym sym sym in
+      let side = side-again (x .side) (omega (arith, side-fits f x fits h k)) in
+      λ j. record { kind = same j; side = side j; array = x .array; step = x .step; p = x .p; q = x .q }
 
   -- what the kinds without side and array have in common
-  names-none : (eqb (x .side) 0 && eqb (x .array) 0 && eqb (x .zero) 0) ≡ true → (x .side ≡ 0) × (x .array ≡ 0) × (x .zero ≡ 0)
+  names-none : (eqb (x .side) 0 && eqb (x .array) 0 && eqb (x .step) 0) ≡ true → (x .side ≡ 0) × (x .array ≡ 0) × (x .step ≡ 0)
   names-none e =
-      let w₁ = and-out (eqb (x .side) 0 && eqb (x .array) 0) (eqb (x .zero) 0) e in
+      let w₁ = and-out (eqb (x .side) 0 && eqb (x .array) 0) (eqb (x .step) 0) e in
       let w₂ = and-out (eqb (x .side) 0) (eqb (x .array) 0) (w₁ .0) in
       (eqb-true _ _ (w₂ .0), eqb-true _ _ (w₂ .1), eqb-true _ _ (w₁ .1))
 
   -- "7 loop: P records."
-  loop-none : x .kind ≡ 7 → (eqb (x .side) 0 && eqb (x .array) 0 && eqb (x .zero) 0) ≡ true × (x .q ≡ 0)
-  loop-none k = let w = and-out (eqb (x .side) 0 && eqb (x .array) 0 && eqb (x .zero) 0) (eqb (x .q) 0) (fit-loop f x _ _ _ sizes k ∙ fits) in (w .0, eqb-true _ _ (w .1))
+  loop-none : x .kind ≡ 7 → (eqb (x .side) 0 && eqb (x .array) 0 && eqb (x .step) 0) ≡ true × (x .q ≡ 0)
+  loop-none k = let w = and-out (eqb (x .side) 0 && eqb (x .array) 0 && eqb (x .step) 0) (eqb (x .q) 0) (fit-loop f x _ _ _ sizes k ∙ fits) in (w .0, eqb-true _ _ (w .1))
 
   pub loop-turns : x .kind ≡ 7 → x .q ≡ 0
   loop-turns k = loop-none k .1
 
   -- "6 branch: P records of the first arm, then Q of the second. 7 loop: P records.", 9 "P records, Q turns"
-  nested-none : nests x ≡ true → (eqb (x .side) 0 && eqb (x .array) 0 && eqb (x .zero) 0) ≡ true
+  nested-none : nests x ≡ true → (eqb (x .side) 0 && eqb (x .array) 0 && eqb (x .step) 0) ≡ true
   nested-none n = elim (shape x) [
     | is-branch k ↦ fit-branch f x _ _ _ sizes k ∙ fits
     | is-loop k ↦ loop-none k .0
-    | is-fixed k ↦ and-out (eqb (x .side) 0 && eqb (x .array) 0 && eqb (x .zero) 0) _ (fit-fixed f x _ _ _ sizes k ∙ fits) .0
+    | is-fixed k ↦ and-out (eqb (x .side) 0 && eqb (x .array) 0 && eqb (x .step) 0) _ (fit-fixed f x _ _ _ sizes k ∙ fits) .0
     | is-leaf k ↦ absurd (true≢false (sym n ∙ k))
   ]
 
@@ -94,6 +75,6 @@ module _ (f : List ℕ) (x : Fields) (fits : fields-fit f x ≡ true) where
   -- "8 call: P is a body, 1 to the last."
   pub call-body : x .kind ≡ 8 → (1 ≤ x .p) × (x .p < body-count f)
   call-body e =
-      let none = eqb (x .side) 0 && eqb (x .array) 0 && eqb (x .zero) 0 && eqb (x .q) 0 in
+      let none = eqb (x .side) 0 && eqb (x .array) 0 && eqb (x .step) 0 && eqb (x .q) 0 in
       let w₁ = and-out (none && leb 1 (x .p)) (ltb (x .p) (body-count f)) (fit-call f x _ _ _ sizes e ∙ fits) in
       (leb-true _ _ (and-out none (leb 1 (x .p)) (w₁ .0) .1), ltb-true _ _ (w₁ .1))

@@ -7,7 +7,6 @@ use native.Nat.{ℕᴺ-discrete}
 use native.Mathlib.Omega.{arith}
 use lib.ListN.{length, getD, set, replicate}
 use lib.Seq.{getD-set-same, getD-set-other}
-use borrow.Author.Tests.{lt-ltb, le-leb}
 use Rattle.model.specs.Sides.{cell-count}
 use Rattle.model.specs.Runs.{begin, here}
 use Rattle.model.proofs.Stamps.{past}
@@ -28,6 +27,7 @@ use Rattle.places.proofs.Weights.{light}
 use Rattle.standing.specs.Inner.Standing.{runner, Reaches}
 use Rattle.steps.specs.Inner.Beginning.{Fronted, first-machine, Ready}
 use Rattle.memories.proofs.Masks.{none}
+use Rattle.memories.proofs.Cells.{each}
 use Rattle.known.proofs.Sets.{start-known}
 
 -- the start
@@ -50,9 +50,9 @@ module _ (f choices : List ℕ) (facts : Facts f) (kind : is-plain f ≡ true) w
 
   module _ (n : ℕ) (q : n ≡ cell-count (layout-of f)) (h c l own others latest : List ℕ)
       (rh : n ≤ length h) (rc : n ≤ length c) (rl : n ≤ length l)
-      (on-host : Changed 0 n (λ i. 0) h own) (on-card : Changed 0 n (λ i. 18446744073709551615) c others) (on-latest : Changed 0 n (λ i. 0) l latest) where
-    filled : (v : ℕ) (a b : List ℕ) → Changed 0 n (λ i. v) a b → (i : ℕ) → i < cell-count (layout-of f) → getD b i 0 ≡ v
-    filled v a b w i k = w .cell i ∙ rw (le-leb 0 i (omega arith), lt-ltb i n (omega arith))
+      (on-host : Changed 1 0 n (λ i. 0) h own) (on-card : Changed 1 0 n (λ i. 18446744073709551615) c others) (on-latest : Changed 1 0 n (λ i. 0) l latest) where
+    filled : (v : ℕ) (a b : List ℕ) → Changed 1 0 n (λ i. v) a b → (i : ℕ) → i < cell-count (layout-of f) → getD b i 0 ≡ v
+    filled v a b w i k = w .cell i ∙ rw (each 0 n i (omega arith) (omega arith))
 
     pub reaches-start : (bodies : ℕ) → Plain f bodies → length choices ≤ 65536 → (room : List ℕ) → length room ≡ 81 → Starts f room → ((d : ℕ) → begun-at room d ≡ 0) →
         Reaches f choices (runner (first-machine (record-count f) (array-count f) bodies) room) own others latest (record { reads = 0; writes = 0; moved = 0 })

@@ -28,9 +28,9 @@ const NEVER: u64 = 18446744073709551615;
 // Writes the start into the first cells of the memories.
 fn write_start(host: &mut [u64], card: &mut [u64], latest: &mut [u64], cells: usize)
     requires { ⌜ Room 0 cells (now host) × Room 0 cells (now card) × Room 0 cells (now latest) ⌝ }
-    ensures host { λ _. ⌜ Changed 0 cells (λ c. 0) (now (host .entry)) (now (host .exit)) ⌝ }
-    ensures card { λ _. ⌜ Changed 0 cells (λ c. 18446744073709551615) (now (card .entry)) (now (card .exit)) ⌝ }
-    ensures latest { λ _. ⌜ Changed 0 cells (λ c. 0) (now (latest .entry)) (now (latest .exit)) ⌝ }
+    ensures host { λ _. ⌜ Changed 1 0 cells (λ c. 0) (now (host .entry)) (now (host .exit)) ⌝ }
+    ensures card { λ _. ⌜ Changed 1 0 cells (λ c. 18446744073709551615) (now (card .entry)) (now (card .exit)) ⌝ }
+    ensures latest { λ _. ⌜ Changed 1 0 cells (λ c. 0) (now (latest .entry)) (now (latest .exit)) ⌝ }
 {
     fill(host, 0, cells, 0);
     fill(card, 0, cells, NEVER);

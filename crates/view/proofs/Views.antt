@@ -16,6 +16,7 @@ use Rattle.model.specs.Verdicts.{accepted}
 use Rattle.model.specs.declared.View.{View}
 use Rattle.view.specs.Viewing.{all-current, memory-view-answer, viewed-side, viewed-place, memory-view, memory-side}
 use Rattle.memories.specs.Inner.Ranges.{FirstStale}
+use Rattle.memories.proofs.Cells.{each}
 
 -- n cells from c on are all current exactly if each of them is
 module _ (copies latest : List ℕ) where
@@ -39,11 +40,11 @@ module _ (copies latest : List ℕ) where
       go false q = refl
 
 -- all cells from `from` up to `end` are current exactly if the first stale one is `end`
-pub no-stale : (copies latest : List ℕ) (from end r : ℕ) → FirstStale copies latest from end r → eqb r end ≡ all-current copies latest from (end - from)
+pub no-stale : (copies latest : List ℕ) (from end r : ℕ) → FirstStale copies latest 1 from end r → eqb r end ≡ all-current copies latest from (end - from)
 no-stale copies latest from end r f = go (eqb r end) refl
   where
     go : (b : Bool) → eqb r end ≡ b → b ≡ all-current copies latest from (end - from)
-    go true e = let q = eqb-true r end e in sym (each-current copies latest (end - from) from (λ k i j. f .before k i (omega (arith, f .low))))
+    go true e = let q = eqb-true r end e in sym (each-current copies latest (end - from) from (λ k i j. f .before k (each from r k i (omega (arith, f .low)))))
     go false e =
         let q = eqb-false r end e in
         let l : r < end = omega (arith, f .high) in

@@ -19,7 +19,7 @@ fn all_current(copies: &[u64], latest: &[u64], from: usize, end: usize) -> bool
     requires { ⌜ (from ≤ end) × (end ≤ length (now copies)) × (end ≤ length (now latest)) ⌝ }
     ensures { λ r. ⌜ r ≡ all-current (now (copies .entry)) (now (latest .entry)) from (end - from) ⌝ }
 {
-    first_stale(copies, latest, from, end) == end
+    first_stale(copies, latest, 1, from, end) == end
 }
 
 // The side whose cells `first` up to `end` the view is, or 23 or 24.

@@ -87,7 +87,7 @@ pub fn put_nested(places: &[u32; PLACES], out: &mut [u8], r: usize, x: Fields)
             kind: x.kind,
             side: 0,
             array: 0,
-            zero: 0,
+            step: 0,
             p: p,
             q: q,
         },

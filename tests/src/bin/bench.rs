@@ -237,7 +237,6 @@ fn check_inputs() -> Vec<Inputs> {
     let mut rng = Rng::new(92);
     let nested = plain(&mut rng, &Shape::new(4, 64, 1024, 16, 30));
     vec![
-        ("check: largest, all cells told apart", vec![encode(&all_told_apart())]),
         ("check: largest, nested at random", vec![encode(&nested)]),
         ("check: ten thousand small plans", small_plans(93, 10_000)),
     ]
@@ -247,10 +246,15 @@ fn bench_check() {
     let walk: Work = |file, _| {
         black_box(walker::check(file));
     };
+    let one = |name, draft: &Draft| compare(name, &[encode(draft)], &[], library::CHECK, walk);
+    let apart = one("check: largest, all cells told apart", &all_told_apart());
     for (name, files) in check_inputs() {
         compare(name, &files, &[], library::CHECK, walk);
     }
-    let one = |name, draft: &Draft| compare(name, &[encode(draft)], &[], library::CHECK, walk);
+    let second = one("check: every 2nd of 4,096 cells", &stepped_apart(2));
+    let third = one("check: every 3rd of 4,096 cells", &stepped_apart(3));
+    println!("{:<48} {:.2} times the time", "check: every 2nd cell beside each", second / apart);
+    println!("{:<48} {:.2} times the time", "check: every 3rd cell beside each", third / apart);
     let whole = one("check: largest, whole arrays, 4,096 cells", &whole_arrays(128));
     let small = one("check: the same records over 32 cells", &whole_arrays(1));
     println!("{:<48} {:.2} times the time", "check: 4,096 cells beside 32", whole / small);
@@ -304,6 +308,7 @@ fn run_inputs() -> Vec<(Inputs, Vec<u8>)> {
     let looping =
         |arrays: &[u16], arm: &[Step]| vec![encode(&Draft::plain(arrays, &[Step::Loop(arm.to_vec())]))];
     let large = [write(0, 0, 0, 4096), copy(1, 0, 0, 4096), copy(0, 0, 0, 4096)];
+    let second = large.clone().map(|act| every(2, act));
     let in_turn = [copy(1, 0, 0, 64), copy(1, 1, 0, 64), copy(0, 0, 0, 64), copy(0, 1, 0, 64)];
     let mixed = [write(0, 0, 0, 1), need(1, 1), copy(1, 0, 0, 1), read(1, 0, 0, 1), mark(0, 1)];
     let nested = (0..20).map(|_| nested(&mut rng)).collect();
@@ -312,6 +317,7 @@ fn run_inputs() -> Vec<(Inputs, Vec<u8>)> {
     let short = choices(&mut rng, 40, 40);
     vec![
         (("run: long run, large copies", looping(&[4096], &large)), turns.clone()),
+        (("run: the same of every 2nd cell", looping(&[4096], &second)), turns.clone()),
         (("run: long run, copies of 64 cells", vec![encode(&copying(4, 64))]), turns.clone()),
         (("run: the same of two arrays in turn", looping(&[64, 64], &in_turn)), turns.clone()),
         (("run: long run, one-cell records", looping(&[1, 1], &mixed)), turns.clone()),

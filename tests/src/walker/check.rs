@@ -57,7 +57,7 @@ pub fn brute_on(plan: &Plan, cells: &[usize]) -> Option<Stop> {
     let flow = plan.flow(0..end, end);
     let watched: Vec<u64> = plan.records.iter().map(|x| mask(cells, plan.covered(x))).collect();
     let arrays: u32 = cells.iter().fold(0, |set, &c| set | 1 << plan.array_of(c));
-    let all = mask(cells, 0..plan.cells());
+    let all = mask(cells, Covered::each(0..plan.cells()));
     // "At the start latest and host are 0 and the card holds never"; flags "at
     // the start set for the host only".
     let start = World { current: [all, 0], flags: [arrays, 0] };
@@ -95,8 +95,8 @@ fn places_after(plan: &Plan, flow: &Flow, at: usize, mut turns: Turns) -> [Place
     [(flow.first(at), turns.clone()), (flow.second(at), turns)]
 }
 
-fn mask(cells: &[usize], range: std::ops::Range<usize>) -> u64 {
-    let bits = cells.iter().enumerate().filter(|(_, c)| range.contains(c));
+fn mask(cells: &[usize], covered: Covered) -> u64 {
+    let bits = cells.iter().enumerate().filter(|(_, &c)| covered.contains(c));
     bits.fold(0, |set, (i, _)| set | 1 << i)
 }
 
@@ -162,8 +162,8 @@ pub fn summary(plan: &Plan) -> Option<Stop> {
     lowest
 }
 
-/// The first cell of each group: a cell where an array or a record's cells
-/// begin or end.
+/// The first cell of each group: a cell where an array or a record's cells begin
+/// or end; with a step each of them begins and ends.
 fn told_apart(plan: &Plan) -> Vec<usize> {
     let mut edge = vec![false; plan.cells() + 1];
     for array in 0..plan.arrays() {
@@ -171,9 +171,14 @@ fn told_apart(plan: &Plan) -> Vec<usize> {
     }
     for record in &plan.records {
         let cells = plan.covered(record);
-        if !cells.is_empty() {
-            edge[cells.start] = true;
-            edge[cells.end] = true;
+        if cells.step == 1 {
+            edge[cells.from] = true;
+            edge[cells.to] = true;
+        } else {
+            for cell in cells {
+                edge[cell] = true;
+                edge[cell + 1] = true;
+            }
         }
     }
     (0..plan.cells()).filter(|&cell| edge[cell]).collect()
@@ -220,7 +225,7 @@ impl Watch<'_> {
     }
 
     fn touched_by(&self, record: &Record) -> bool {
-        record.array == self.array && (record.kind == MARK || self.plan.covered(record).contains(&self.cell))
+        record.array == self.array && (record.kind == MARK || self.plan.covered(record).contains(self.cell))
     }
 }
 

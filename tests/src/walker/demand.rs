@@ -146,7 +146,7 @@ impl<'a> Run<'a> {
         let cells = self.plan.covered(&x);
         match x.kind {
             READ => {
-                self.current(at, x.side, cells.clone())?;
+                self.current(at, x.side, cells)?;
                 self.reads += 1;
                 for cell in cells {
                     if self.copies[x.side][cell] != Some(self.stamp_from_history(cell)) {
@@ -185,11 +185,11 @@ impl<'a> Run<'a> {
     /// "The latest write of a cell is the last executed write record that
     /// covers it, and its stamp is that record's k; before any, the stamp is 0."
     fn stamp_from_history(&self, cell: usize) -> u64 {
-        let covers = |&record: &usize| self.plan.covered(&self.plan.records[record]).contains(&cell);
+        let covers = |&record: &usize| self.plan.covered(&self.plan.records[record]).contains(cell);
         self.history.iter().rposition(covers).map_or(0, |before| before as u64 + 1)
     }
 
-    fn current(&self, record: usize, side: usize, cells: std::ops::Range<usize>) -> Result<(), Breach> {
+    fn current(&self, record: usize, side: usize, cells: Covered) -> Result<(), Breach> {
         for cell in cells {
             if self.copies[side][cell] != Some(self.latest[cell]) {
                 return Err(Breach::Stuck { record, cell });
@@ -198,9 +198,9 @@ impl<'a> Run<'a> {
         Ok(())
     }
 
-    fn copy(&mut self, at: usize, side: usize, cells: std::ops::Range<usize>) -> Result<(), Breach> {
-        self.current(at, 1 - side, cells.clone())?;
-        self.moved_cells += cells.len();
+    fn copy(&mut self, at: usize, side: usize, cells: Covered) -> Result<(), Breach> {
+        self.current(at, 1 - side, cells)?;
+        self.moved_cells += cells.count();
         for cell in cells {
             self.copies[side][cell] = self.copies[1 - side][cell];
         }
@@ -342,7 +342,7 @@ mod tests {
     use super::*;
 
     fn one_read() -> Plan {
-        let read = Record { kind: READ, side: HOST, array: 0, p: 0, q: 1 };
+        let read = Record { kind: READ, side: HOST, array: 0, step: 0, p: 0, q: 1 };
         let body = Body { first: 0, count: 1, declarations: 0 };
         Plan::new(FileKind::Plain, &[1], vec![body], vec![read])
     }

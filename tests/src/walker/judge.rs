@@ -109,6 +109,15 @@ impl Cells {
         }
     }
 
+    fn add_covered(&mut self, cells: Covered) {
+        if cells.step == 1 {
+            return self.add(cells.range());
+        }
+        for cell in cells {
+            self.0[cell / 64] |= 1 << (cell % 64);
+        }
+    }
+
     fn holds(&self, range: Range<usize>) -> bool {
         Cells::words(&range).all(|word| Cells::word(&range, word) & !self.0[word] == 0)
     }
@@ -137,7 +146,7 @@ fn written_on_every_way(plan: &Plan, part: Range<usize>) -> [Cells; 2] {
         let (first, second) = plan.arms(r);
         r = second.end;
         match x.kind {
-            WRITE => written[x.side].add(plan.covered(x)),
+            WRITE => written[x.side].add_covered(plan.covered(x)),
             BRANCH if !first.is_empty() && !second.is_empty() => {
                 let one = written_on_every_way(plan, first);
                 let two = written_on_every_way(plan, second);

@@ -31,6 +31,40 @@ pub struct Checker {
     pub fixed: Fixed,
     /// The statuses with which a free loop was entered are kept for its next visit.
     pub keeps_entries: bool,
+    /// What a step is taken for.
+    pub stepping: Stepping,
+}
+
+/// What a checker or a judge takes a step for.
+#[derive(Clone, Copy, Debug, Default, PartialEq, Eq)]
+pub enum Stepping {
+    /// "k means P, P + k and so on below Q".
+    #[default]
+    Exact,
+    /// Each cell from P to Q - 1, whatever the step.
+    Each,
+    /// The cells from P to Q - 1 that a step counted from the array's first cell hits.
+    FromArray,
+    /// One step more, where the array goes on.
+    OnceMore,
+    /// The first cell alone.
+    FirstOnly,
+}
+
+impl Stepping {
+    fn covers(self, plan: &Plan, x: &Record, cell: usize) -> bool {
+        let exact = plan.covered(x);
+        let inside = exact.range().contains(&cell);
+        let array = plan.cells_of(x.array);
+        match self {
+            _ if exact.step == 1 => inside,
+            Stepping::Exact => exact.contains(cell),
+            Stepping::Each => inside,
+            Stepping::FromArray => inside && (cell - array.start) % exact.step == 0,
+            Stepping::OnceMore => array.contains(&cell) && Covered { to: exact.to + exact.step, ..exact }.contains(cell),
+            Stepping::FirstOnly => cell == exact.from,
+        }
+    }
 }
 
 /// What a checker takes a fixed loop for.
@@ -211,7 +245,7 @@ impl Checker {
         seen: &mut Seen,
     ) -> BTreeSet<Status> {
         let x = &plan.records[r];
-        let covers = plan.covered(x).contains(&cell);
+        let covers = self.stepping.covers(plan, x, cell);
         let marks = x.kind == MARK && x.array == plan.array_of(cell);
         if !covers && !marks {
             return entry.clone();
@@ -277,6 +311,8 @@ pub enum Judge {
     WriteInOneArmMeetsW,
     WriteInLoopMeetsW,
     WriteInFixedLoopMeetsNoW,
+    /// A stepped write counts for each cell of its range.
+    StepNotSeen,
     ReadUnderWIsDeclared,
     SideNotCompared,
     /// 15 only after the records of all passes.
@@ -338,7 +374,8 @@ impl Judge {
             let here = match x.kind {
                 WRITE => {
                     let side = x.side == side || self == Judge::SideNotCompared;
-                    side && plan.covered(x).contains(&cell)
+                    let stepping = if self == Judge::StepNotSeen { Stepping::Each } else { Stepping::Exact };
+                    side && stepping.covers(plan, x, cell)
                 }
                 BRANCH => {
                     let one = self.writes(plan, first, side, cell);
@@ -441,7 +478,7 @@ impl Runner {
         match (self, end) {
             (Runner::MovesSomeCells, RunEnd::Stopped { record, cell }) => {
                 let x = &plan.records[record];
-                for moved in plan.covered(x).start..cell {
+                for moved in plan.covered(x).into_iter().take_while(|&moved| moved < cell) {
                     if x.kind != READ {
                         memories.sides[x.side][moved] = memories.sides[1 - x.side][moved];
                     }

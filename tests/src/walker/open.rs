@@ -24,7 +24,7 @@ pub fn open(file: &[u8]) -> Result<Plan, Refusal> {
     let records = file[bodies_at(file)..file.len() - TAIL].chunks_exact(RECORD);
     let plan = Plan::new(kind, &lengths, bodies, records.map(Record::from_bytes).collect());
     for body in 0..plan.bodies.len() {
-        Holder { file, plan: &plan, body }.arm(0..plan.bodies[body].count, 0, 1)?;
+        Holder { plan: &plan, body }.arm(0..plan.bodies[body].count, 0, 1)?;
     }
     Ok(plan)
 }
@@ -113,7 +113,6 @@ fn tail(file: &[u8], bodies: &[Body]) -> Result<(), Refusal> {
 
 /// The tests of one body's records.
 struct Holder<'a> {
-    file: &'a [u8],
     plan: &'a Plan,
     body: usize,
 }
@@ -161,7 +160,8 @@ impl Holder<'_> {
     fn fields(&self, r: usize) -> Result<(), Refusal> {
         let record = &self.plan.records[r];
         let (side, array, p, q) = (record.side, record.array, record.p, record.q);
-        let zero = self.file[bodies_at(self.file) + RECORD * r + 3] == 0;
+        // "Number 8 no longer covers that byte there."
+        let zero = record.step == 0 || matches!(record.kind, READ | WRITE | COPY);
         let named = side <= CARD && array < self.plan.arrays();
         let unnamed = side == 0 && array == 0;
         let fits = match record.kind {

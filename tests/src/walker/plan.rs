@@ -53,12 +53,14 @@ impl FileKind {
 }
 
 /// "A record: kind, side, array, zero, then two numbers of two bytes, P and Q."
-/// P and Q are wide here: the arms of an expansion can pass 16 bits.
+/// "Byte 3 of kinds 1 to 3 becomes a step". P and Q are wide here: the arms of an
+/// expansion can pass 16 bits.
 #[derive(Clone, Copy, Debug, PartialEq, Eq)]
 pub struct Record {
     pub kind: u8,
     pub side: usize,
     pub array: usize,
+    pub step: usize,
     pub p: usize,
     pub q: usize,
 }
@@ -69,6 +71,7 @@ impl Record {
             kind: b[0],
             side: b[1] as usize,
             array: b[2] as usize,
+            step: b[3] as usize,
             p: two_bytes(&b[4..]),
             q: two_bytes(&b[6..]),
         }
@@ -77,7 +80,43 @@ impl Record {
     pub fn to_bytes(self) -> [u8; RECORD] {
         let [p0, p1] = u16::try_from(self.p).expect("P fits").to_le_bytes();
         let [q0, q1] = u16::try_from(self.q).expect("Q fits").to_le_bytes();
-        [self.kind, self.side as u8, self.array as u8, 0, p0, p1, q0, q1]
+        [self.kind, self.side as u8, self.array as u8, self.step as u8, p0, p1, q0, q1]
+    }
+}
+
+/// The cells `from`, `from` + `step` and so on below `to`.
+#[derive(Clone, Copy, Debug, PartialEq, Eq)]
+pub struct Covered {
+    pub from: usize,
+    pub to: usize,
+    pub step: usize,
+}
+
+impl Covered {
+    /// Each cell of a range.
+    pub fn each(cells: Range<usize>) -> Covered {
+        Covered { from: cells.start, to: cells.end, step: 1 }
+    }
+
+    pub fn contains(&self, cell: usize) -> bool {
+        (self.from..self.to).contains(&cell) && (cell - self.from) % self.step == 0
+    }
+
+    pub fn count(&self) -> usize {
+        (self.to - self.from).div_ceil(self.step)
+    }
+
+    pub fn range(&self) -> Range<usize> {
+        self.from..self.to
+    }
+}
+
+impl IntoIterator for Covered {
+    type Item = usize;
+    type IntoIter = std::iter::StepBy<Range<usize>>;
+
+    fn into_iter(self) -> Self::IntoIter {
+        self.range().step_by(self.step)
     }
 }
 
@@ -146,16 +185,17 @@ impl Plan {
         self.starts.partition_point(|&start| start <= cell) - 1
     }
 
-    /// The cells that a record touches: P to Q − 1 of its array, for a need the
-    /// whole array, for every other kind none.
-    pub fn covered(&self, record: &Record) -> Range<usize> {
+    /// The cells that a record touches: P to Q − 1 of its array, with a step "P,
+    /// P + k and so on below Q", for a need the whole array, for every other kind
+    /// none. "0 and 1 mean each cell".
+    pub fn covered(&self, record: &Record) -> Covered {
         match record.kind {
             READ | WRITE | COPY => {
                 let first = self.starts[record.array];
-                first + record.p..first + record.q
+                Covered { from: first + record.p, to: first + record.q, step: record.step.max(1) }
             }
-            NEED => self.cells_of(record.array),
-            _ => 0..0,
+            NEED => Covered::each(self.cells_of(record.array)),
+            _ => Covered::each(0..0),
         }
     }
 

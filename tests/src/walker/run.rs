@@ -138,8 +138,8 @@ impl<'a, 'b> Machine<'a, 'b> {
             WRITE => {
                 // "the k-th executed write record (k from 1) puts stamp k"
                 self.tally.writes += 1;
-                self.memories.sides[side][cells.clone()].fill(self.tally.writes);
-                self.memories.latest[cells].fill(self.tally.writes);
+                put(self.memories.sides[side], cells, self.tally.writes);
+                put(self.memories.latest, cells, self.tally.writes);
             }
             COPY => self.copy(side, cells)?,
             NEED if self.flags[side] & array != 0 => {}
@@ -156,16 +156,26 @@ impl<'a, 'b> Machine<'a, 'b> {
     }
 
     /// "needs its cells current on the other side, then copies them to s"
-    fn copy(&mut self, side: usize, cells: std::ops::Range<usize>) -> Result<(), usize> {
-        self.needs_current(1 - side, cells.clone())?;
+    fn copy(&mut self, side: usize, cells: Covered) -> Result<(), usize> {
+        self.needs_current(1 - side, cells)?;
         let [host, card] = &mut self.memories.sides;
         let (from, to) = if side == HOST { (card, host) } else { (host, card) };
-        to[cells.clone()].copy_from_slice(&from[cells.clone()]);
-        self.tally.moved += cells.len() as u64;
+        if cells.step == 1 {
+            to[cells.range()].copy_from_slice(&from[cells.range()]);
+        } else {
+            cells.into_iter().for_each(|cell| to[cell] = from[cell]);
+        }
+        self.tally.moved += cells.count() as u64;
         Ok(())
     }
 
-    fn needs_current(&self, side: usize, cells: std::ops::Range<usize>) -> Result<(), usize> {
+    fn needs_current(&self, side: usize, cells: Covered) -> Result<(), usize> {
+        if cells.step != 1 {
+            let (copies, latest) = (&self.memories.sides[side], &self.memories.latest);
+            let stale = cells.into_iter().find(|&cell| copies[cell] != latest[cell]);
+            return stale.map_or(Ok(()), Err);
+        }
+        let cells = cells.range();
         let (copies, latest) =
             (&self.memories.sides[side][cells.clone()], &self.memories.latest[cells.clone()]);
         if copies == latest {
@@ -173,5 +183,14 @@ impl<'a, 'b> Machine<'a, 'b> {
         }
         let unmet = copies.iter().zip(latest).position(|(copy, latest)| copy != latest);
         Err(cells.start + unmet.expect("some cell is stale"))
+    }
+}
+
+/// A stamp into these cells of a memory.
+fn put(memory: &mut [u64], cells: Covered, stamp: u64) {
+    if cells.step == 1 {
+        memory[cells.range()].fill(stamp);
+    } else {
+        cells.into_iter().for_each(|cell| memory[cell] = stamp);
     }
 }

@@ -138,7 +138,7 @@ pub fn carried_on(plan: &Plan, choices: &[u8]) -> Vec<Stop> {
                 continue;
             }
             1 => {
-                let stale = plan.covered(&x).filter(|&c| copies[own][c] != latest[c]);
+                let stale = plan.covered(&x).into_iter().filter(|&c| copies[own][c] != latest[c]);
                 stops.extend(stale.map(|cell| Stop { record: at, cell }));
             }
             2 => {

@@ -104,7 +104,7 @@ fn written_on_a_way(plan: &Plan, body: usize, choices: &[u8]) -> Option<Vec<bool
             6 | 7 => flow.second(at),
             _ => {
                 if x.kind == 2 {
-                    written[plan.covered(x)].fill(true);
+                    plan.covered(x).into_iter().for_each(|cell| written[cell] = true);
                 }
                 flow.first(at)
             }

@@ -72,7 +72,18 @@ fn records_by_hand() {
     assert_eq!(number(raw(1, 0, 1, 2, 2)), refused(8));
     assert_eq!(number(raw(1, 2, 1, 0, 1)), refused(8));
     assert_eq!(number(raw(3, 1, 2, 0, 1)), refused(8));
-    assert_eq!(number([1, 0, 1, 1, 0, 0, 1, 0]), refused(8));
+    // "Byte 3 of kinds 1 to 3 becomes a step"; elsewhere it is zero.
+    for step in [1, 2, 255] {
+        for kind in 1..=3 {
+            assert_eq!(number([kind, 0, 1, step, 0, 0, 1, 0]), (0, 0));
+        }
+        for kind in [4, 5, 16, 17, 18] {
+            assert_eq!(number([kind, 0, 1, step, 0, 0, 0, 0]), refused(8));
+        }
+        for (kind, turns) in [(6, 0), (7, 0), (9, 1)] {
+            assert_eq!(number([kind, 0, 0, step, 0, 0, turns, 0]), refused(8));
+        }
+    }
     assert_eq!(number(raw(4, 1, 1, 0, 0)), (0, 0));
     assert_eq!(number(raw(5, 1, 1, 0, 1)), refused(8));
     assert_eq!(number(raw(4, 1, 1, 1, 0)), refused(8));

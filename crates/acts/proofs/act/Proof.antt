@@ -1,4 +1,7 @@
 -- `act` follows the model, kind by kind.
+use mathlib.Core.Bool.{_&&_}
+use lib.Dec.{leb}
+use Rattle.model.specs.Records.{distance}
 use Rattle.memories.proofs.Cells.{same-all}
 use Rattle.acts.proofs.Turning.{here-read, here-write, here-move, here-mark}
 use borrow.Author.Needs.{needs}
@@ -33,7 +36,7 @@ same-length-3 c = search needs
 returns : tie.Need-returns
 returns c =
     let a = c .before .before .before .before .before .before .before .before .before .args in
-    (here-read (a .x) (a .whole) (a .from) (a .to) (a .s) (a .host .now) (a .card .now) (a .latest .now) (c .act-read .result) (c .before .before .before .before .match .keys1) (c .act-read .ensures), (same-all _ _, (same-all _ _, same-all _ _)))
+    (here-read (a .x) (a .whole && leb (a .step) 1) (distance (a .step)) (a .from) (a .to) (a .s) (a .host .now) (a .card .now) (a .latest .now) (c .act-read .result) (c .before .before .before .before .match .keys1) (c .act-read .ensures), (same-all _ _, (same-all _ _, same-all _ _)))
 
 same-length-4 : tie.Need-same-length-4
 same-length-4 c = search needs
@@ -49,12 +52,12 @@ returns-2 c =
     let a = c .before .before .before .before .before .before .before .before .before .before .before .before .before .before .before .args in
     let w = c .before .before .before .before .before .before .act-write in
     let p = w .ensures .1 in
-    (here-write (a .x) (a .whole) (a .from) (a .to) (a .s) (a .host .now) (a .card .now) (a .latest .now) (w .result) (c .before .before .before .before .before .before .before .before .before .before .match .keys2) _ _ _ (w .ensures .0), (p .0, (p .1, p .2)))
+    (here-write (a .x) (a .whole && leb (a .step) 1) (distance (a .step)) (a .from) (a .to) (a .s) (a .host .now) (a .card .now) (a .latest .now) (w .result) (c .before .before .before .before .before .before .before .before .before .before .match .keys2) _ _ _ (w .ensures .0), (p .0, (p .1, p .2)))
 
 returns-3 : tie.Need-returns-3
 returns-3 c =
     let a = c .before .before .before .before .before .before .args in
-    (here-mark (a .x) (a .whole) (a .from) (a .to) (a .s) (a .host .now) (a .card .now) (a .latest .now) (c .act-mark .result) (c .before .match .keys3) (c .act-mark .ensures), (same-all _ _, (same-all _ _, same-all _ _)))
+    (here-mark (a .x) (a .whole && leb (a .step) 1) (distance (a .step)) (a .from) (a .to) (a .s) (a .host .now) (a .card .now) (a .latest .now) (c .act-mark .result) (c .before .match .keys3) (c .act-mark .ensures), (same-all _ _, (same-all _ _, same-all _ _)))
 
 same-length-7 : tie.Need-same-length-7
 same-length-7 c = search needs
@@ -72,7 +75,7 @@ returns-4 c =
     let w = c .before .before .before .before .act-move in
     let n = c .before .before .before .before .before .before .before .before .match .rest in
     let p = w .ensures .1 .1 in
-    (here-move (a .x) (a .whole) (a .from) (a .to) (a .s) (a .host .now) (a .card .now) (a .latest .now) (w .result) (b .pre .2, b .pre .3) (n .0 .0 .1) (n .0 .1) (n .1) _ _ (w .ensures .0) (w .ensures .1 .0), (p .0, (p .1, same-all _ _)))
+    (here-move (a .x) (a .whole && leb (a .step) 1) (distance (a .step)) (a .from) (a .to) (a .s) (a .host .now) (a .card .now) (a .latest .now) (w .result) (b .pre .2, b .pre .3) (n .0 .0 .1) (n .0 .1) (n .1) _ _ (w .ensures .0) (w .ensures .1 .0), (p .0, (p .1, same-all _ _)))
 
 pub act-spec : {M : Type 1} → statement M
 act-spec =

@@ -45,7 +45,7 @@ returns-2 c =
       λ n. absurd (true≢false (sym (c .before .if2 .taken) ∙ n)),
       (
         λ y layout x k σ l h. need-acts h (a .pre .0) (a .args .on-card) x k (m .result) (c .with-both .result) (sym (c .before .before .before .before .before .before .before .before .before .before .flag-set .ensures _ _ (rw (k .array) at (k .range .one)) (c .before .before .before .before .before .before .before .before .before .before .before .side-flags .ensures ∙ flags-held h (a .args .on-card))) ∙ rw y at (c .before .before .before .before .before .before .before .before .before .if1 .left)) (m .ensures) (c .with-both .ensures),
-        moves-same (a .args .on-card) _ _ _ _ _ _ _ _ (m .result) _ _ (m .ensures),
+        moves-same (a .args .on-card) _ _ _ _ _ _ _ _ _ (m .result) _ _ (m .ensures),
       ),
     )
 
@@ -59,7 +59,7 @@ returns-3 : tie.Need-returns-3
 returns-3 c =
     let a = c .before .before .before .before .before .before .before .before .before .before .before .before .before .before in
     let m = c .before .before .before .before .before .act-copy in
-    (λ n layout x k σ l h. copy-acts h (a .pre .0) (a .args .on-card) x k (m .result) (m .ensures), (λ y. absurd (true≢false (sym y ∙ c .if2 .left)), moves-same (a .args .on-card) _ _ _ _ _ _ _ _ (m .result) _ _ (m .ensures)))
+    (λ n layout x k σ l h. copy-acts h (a .pre .0) (a .args .on-card) x k (m .result) (m .ensures), (λ y. absurd (true≢false (sym y ∙ c .if2 .left)), moves-same (a .args .on-card) _ _ _ _ _ _ _ _ _ (m .result) _ _ (m .ensures)))
 
 pub act-move-spec : {M : Type 1} → statement M
 act-move-spec =

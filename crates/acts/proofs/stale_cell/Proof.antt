@@ -1,5 +1,5 @@
 -- `stale_cell` finds the first stale cell, or knows that there is none.
-use native.Mathlib.Omega.{arith}
+use Rattle.acts.proofs.Stale.{none-known}
 use borrow.Author.Needs.{needs}
 use Rattle.acts.proofs.stale_cell.Statement.{statement}
 use Rattle.acts.proofs.stale_cell.Tie as tie
@@ -8,7 +8,7 @@ use Rattle.memories.proofs.stale_on.Reads as stale-on-reads
 returns : tie.Need-returns
 returns c =
     let a = c .before .before .before .before in
-    record { low = a .pre .1 .in-own .order; high = omega arith; before = a .pre .0 (c .if1 .taken); here = λ i e. omega arith }
+    none-known (a .pre .1 .in-own .order) (a .pre .0 (c .if1 .taken))
 
 stale-on-requires : tie.Need-stale-on-requires
 stale-on-requires c κs = search needs

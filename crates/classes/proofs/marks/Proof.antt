@@ -1,15 +1,14 @@
 -- `marks` marks where the cells of a record begin and end. The invariant: a place without a mark is clear of the records before r.
-use Prim.Native.Nat.{_+_, _-_, _≤_}
-use mathlib.Core.Path.{_≡_, ap, _∙_}
+use Prim.Native.Nat.{_-_, _≤_}
+use mathlib.Core.Path.{_≡_}
 use mathlib.Core.Logic.{⊎-elim}
 use native.Mathlib.Omega.{arith}
 use lib.ListN.{getD}
-use borrow.Author.Tests.{le-leb}
 use Rattle.model.specs.Sides.{span-of}
 use Rattle.reading.specs.Bytes.{layout-of}
 use Rattle.classes.specs.Inner.Marks.{Marked}
 use Rattle.format.proofs.Acts.{record-inside}
-use Rattle.classes.proofs.Marking.{Edges, edges, marked-none, marked-skip, marked-more}
+use Rattle.classes.proofs.Marking.{Edges, edges, Cells, cells, marked-none, marked-skip, marked-more}
 use borrow.Author.Needs.{needs}
 use Rattle.classes.proofs.marks.Statement.{statement}
 use Rattle.classes.proofs.marks.Tie as tie
@@ -30,16 +29,12 @@ edge c =
 first : (c : tie.Then1 Inv-loop μ-loop) → getD (c .before .before .before .before .before .before .args .starts .now) (c .before .before .record-at .result .array) 0 ≡ span-of (layout-of (c .before .before .before .before .before .before .args .plan .now)) (c .before .before .record-at .result .array) .first
 first c = c .before .before .before .before .before .before .pre .2 .first _ (omega (arith, edge c .array))
 
--- its first cell, and the one after its last
-from : (c : tie.After-cells-of Inv-loop μ-loop) → c .cells-of .result .from ≡ span-of (layout-of (c .before .before .before .before .before .before .before .args .plan .now)) (c .before .before .before .record-at .result .array) .first + c .before .before .before .record-at .result .p
-from c =
-    let k = le-leb (c .before .before .before .record-at .result .kind) 3 (omega (arith, c .before .if1 .taken)) in
-    (rw k at (c .cells-of .ensures .0)) ∙ ap (λ z. z + c .before .before .before .record-at .result .p) (first (c .before))
-
-to : (c : tie.After-cells-of Inv-loop μ-loop) → c .cells-of .result .to ≡ span-of (layout-of (c .before .before .before .before .before .before .before .args .plan .now)) (c .before .before .before .record-at .result .array) .first + c .before .before .before .record-at .result .q
-to c =
-    let k = le-leb (c .before .before .before .record-at .result .kind) 3 (omega (arith, c .before .if1 .taken)) in
-    (rw k at (c .cells-of .ensures .1)) ∙ ap (λ z. z + c .before .before .before .record-at .result .q) (first (c .before))
+-- its cells
+these : (c : tie.After-cells-of Inv-loop μ-loop) → Cells (c .before .before .before .before .before .before .before .args .plan .now) (c .before .before .before .record-at .result) (c .cells-of .result .from) (c .cells-of .result .to) (c .cells-of .result .step)
+these c =
+    let x = c .before .before .before .record-at .result in
+    let e = c .cells-of .ensures in
+    cells _ x (omega (arith, c .before .if1 .taken)) _ (first (c .before)) _ _ _ _ (e .0) (e .1 .0) (e .1 .1)
 
 loop-holds : tie.Need-loop-holds Inv-loop μ-loop
 loop-holds c = (search needs, marked-none _ _ (c .before .pre .3))
@@ -50,11 +45,17 @@ record-at-requires c κs = (c .before .before .before .pre .0 .place, record-ins
 cells-of-requires : tie.Need-cells-of-requires Inv-loop μ-loop
 cells-of-requires c κs = omega (arith, edge c .array, edge c .few)
 
-element-write-m : tie.Need-element-write-m Inv-loop μ-loop
-element-write-m c = let n = edge (c .before) in omega (arith, n .order, n .inside, from c)
-
-element-write-m-2 : tie.Need-element-write-m-2 Inv-loop μ-loop
-element-write-m-2 c = let n = edge (c .before) in omega (arith, n .inside, to c)
+mark-edges-requires : tie.Need-mark-edges-requires Inv-loop μ-loop
+mark-edges-requires c κs =
+    let n = edge (c .before .before) in
+    let z = these (c .before) in
+    let x = c .before .before .before .struct-known .given in (
+      c .before .before .before .before .before .before .loop .inv .1 .size,
+      omega (arith, n .order, z .from-is, z .to-is),
+      omega (arith, n .inside, z .to-is),
+      omega (arith, z .step-is),
+      omega (arith, z .step-is),
+    )
 
 add-r : tie.Need-add-r Inv-loop μ-loop
 add-r c = search needs
@@ -70,8 +71,7 @@ loop-again c =
       ⊎-elim
           (λ w.
           let there : tie.After-cells-of Inv-loop μ-loop = record { before = record { before = c .before; if1 = w .0 }; cells-of = w .1 } in
-          let n = edge (record { before = c .before; if1 = w .0 }) in
-          rw (w .2) (marked-more _ _ _ _ (x .ensures) (l .inv .1) _ _ (omega (arith, n .order, n .inside, from there)) (omega (arith, n .inside, to there)) (from there) (to there)))
+          rw (w .4) (marked-more _ _ _ _ (x .ensures) (l .inv .1) _ _ _ (these there) _ (w .3 .ensures)))
           (λ w. rw (w .1) (marked-skip _ _ _ _ (x .ensures) (l .inv .1) (w .0 .left)))
           (c .if1 .came),
     )
@@ -88,8 +88,7 @@ marks-spec =
     loop-holds
     record-at-requires
     cells-of-requires
-    element-write-m
-    element-write-m-2
+    mark-edges-requires
     add-r
     loop-less
     loop-again

@@ -4,8 +4,16 @@ use mathlib.Core.Path.{_≡_}
 use mathlib.Core.List.{List}
 use lib.ListN.{length, getD}
 use Rattle.model.specs.Sides.{span-of}
+use Rattle.model.specs.Records.{stepped}
 use Rattle.reading.specs.Bytes.{layout-of, fields-at}
 use Rattle.lookahead.specs.Inner.Ahead.{cell-at, covers}
+
+-- the marks from before and those for the numbers `from`, `from` + k and so on below `to`: a number without a mark is one of these exactly
+-- if the number before it is
+pub record Edged (k from to : ℕ) (before after : List ℕ) : Type 0 where
+  pub size : length after ≡ 4097
+  pub kept : (n : ℕ) → getD before n 0 ≡ 1 → getD after n 0 ≡ 1
+  pub alike : (n : ℕ) → (getD after (suc n) 0 ≡ 1 → ⊥) → stepped k from to (suc n) ≡ stepped k from to n
 
 -- 4097 marks, and a cell without one is not told apart from the cell before it in its array: each record before r covers both or neither
 pub record Marked (f : List ℕ) (r : ℕ) (marks : List ℕ) : Type 0 where

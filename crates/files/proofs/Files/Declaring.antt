@@ -20,11 +20,11 @@ use Rattle.records.specs.Records.{body-rows}
 use Rattle.format.specs.Plans.{declaration-of, pass-at}
 use Rattle.files.specs.Files.{fields}
 use Rattle.files.specs.Inner.Short.{block-fields, block-fits, passes-size}
-use Rattle.files.specs.Bounds.{all-pass, products-fit, pass-fits, pass-size, numbered-passes, mode-kind, declaration-fields, pass-body}
+use Rattle.files.specs.Bounds.{all-pass, action-fits, products-fit, pass-fits, pass-size, numbered-passes, mode-kind, declaration-fields, pass-body}
 use Rattle.files.proofs.Files.Holding.{Along, none, more, Holds, front-part, back-at, each-so, along-unmap, from-place, table-is}
 use Rattle.files.proofs.Files.Places.{body-size, sizes, Arrayed, Placed}
 use Rattle.files.proofs.Files.Accepting.{Passes, EntryFits}
-use Rattle.files.proofs.Files.Records.{Walks, at-plain, side-fits, fields-count, block-walks}
+use Rattle.files.proofs.Files.Records.{Walks, at-plain, side-fits, fields-count, action-fit, block-walks}
 use Rattle.files.proofs.Files.Reading.{side-back, block-reads}
 
 -- the records of declarations
@@ -100,7 +100,7 @@ module _ (f : List ℕ) (b : ℕ) (p : Pass) (placed : Placed f b (pass-body p))
       rw end
       (declarations-walk f b (r + declared + size (p .body)) (p .declarations) r (rw (arrayed .counted) (fit′ .0))
       (λ s x k e. rw (kind-is, later, declarations-are, lt-ltb s (r + declared) k, e)) (omega arith) declarations-held
-      (block-walks f b (r + declared) layout arrayed (λ s x k e. rw (kind-is, later, declarations-are, le-ltb s (r + declared) k, e))
+      (block-walks f b (r + declared) (λ s x k e. rw (kind-is, later, declarations-are, le-ltb s (r + declared) k, e)) (action-fits layout) (action-fit f layout arrayed)
       (p .body) 8 0 1 (r + declared) block-in (omega arith) (omega arith) (rw one-mul few) (omega arith) block-held) (records-in f b))
 
   declarations-read : table (λ i. declaration-of (fields-at f (r + i))) declared ≡ p .declarations

@@ -104,8 +104,8 @@ module _ (f : List ℕ) where
       let q-is : u16-at f (i + 6) ≡ x .q = u16-is f (i + 6) (x .q) (rw add-six (more e6 (more e7 none))) in
       let side-is : byte-at f (i + 1) ≡ x .side = rw add-one e1 in
       let array-is : byte-at f (i + 2) ≡ x .array = rw add-two e2 in
-      let zero-is : byte-at f (i + 3) ≡ x .zero = rw add-three e3 in
-      λ j. record { kind = e0 j; side = side-is j; array = array-is j; zero = zero-is j; p = p-is j; q = q-is j }
+      let step-is : byte-at f (i + 3) ≡ x .step = rw add-three e3 in
+      λ j. record { kind = e0 j; side = side-is j; array = array-is j; step = step-is j; p = p-is j; q = q-is j }
 
 abbrev no-body : Body
 no-body = record { declarations = 0; records = [] }

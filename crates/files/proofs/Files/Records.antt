@@ -23,7 +23,7 @@ use Rattle.rules.specs.Rules.{fields-fit, acts-or-nests, allowed, deepest, reco
 use Rattle.records.specs.Records.{block-rows}
 use Rattle.format.proofs.Trees.{not-nesting, no-arms, one-turn}
 use Rattle.files.specs.Files.{fields, action-fields, fields-of}
-use Rattle.files.specs.Inner.Short.{block-fields, block-fits}
+use Rattle.files.specs.Inner.Short.{block-fields}
 use Rattle.files.specs.Bounds.{cells-fit, action-fits, nested-within}
 use Rattle.files.proofs.Files.Holding.{more, Holds, front-part, back-at}
 use Rattle.files.proofs.Files.Places.{Arrayed, array-length}
@@ -179,25 +179,27 @@ module _ {A : Type 0} (leaf : A → Fields) (fits : A → Bool) (f : List ℕ) (
       (walks-of x levels (depth + 1) (around * suc n) (suc r) (fit .0) (omega arith) (omega arith) first (omega arith) (front-part (fields-of leaf x) _ h))
       (rw next at (walks-of t (suc levels) depth around (suc r + size x) (fit .1) d a others (omega arith) (back-at (fields-of leaf x) (size x) (count-of leaf x) h)))
 
--- where the arrays are these, and the records from `low` on may be of the kinds 1 to 7 and 9
-module _ (f : List ℕ) (b low : ℕ) (layout : Layout) (arrayed : Arrayed f layout)
-    (may : (r : ℕ) (x : Fields) → low ≤ r → acts-or-nests x ≡ true → allowed f b r x ≡ true) where
-  action-fit : (x : Action) → action-fits layout x ≡ true → fields-fit f (action-fields x) ≡ true
+-- where the arrays are these
+module _ (f : List ℕ) (layout : Layout) (arrayed : Arrayed f layout) where
+  pub action-fit : (x : Action) → action-fits layout x ≡ true → fields-fit f (action-fields x) ≡ true
   unfolding fields-fit
   action-fit x e = go (x .verb) (h .1)
     where
       h : (ltb (x .name) (length (layout .lengths)) ≡ true) × (cells-fit layout x ≡ true)
       h = and-out (ltb (x .name) (length (layout .lengths))) (cells-fit layout x) e
 
-      ranged : (ltb (x .p) (x .q) && leb (x .q) (span-of layout (x .name) .length)) ≡ true →
-          (ltb (side-number (x .side)) 2 && ltb (x .name) (array-count f) && true && ltb (x .p) (x .q) && leb (x .q) (length-at f (x .name))) ≡ true
+      ranged : (ltb (x .step) 256 && (ltb (x .p) (x .q) && leb (x .q) (span-of layout (x .name) .length))) ≡ true →
+          (ltb (side-number (x .side)) 2 && ltb (x .name) (array-count f) && ltb (x .p) (x .q) && leb (x .q) (length-at f (x .name))) ≡ true
       ranged u =
-          let k = and-out (ltb (x .p) (x .q)) (leb (x .q) (span-of layout (x .name) .length)) u in
+          let k = and-out (ltb (x .p) (x .q)) (leb (x .q) (span-of layout (x .name) .length)) (and-out (ltb (x .step) 256) _ u .1) in
           rw (side-fits (x .side), arrayed .counted, h .0, k .0, array-length f layout arrayed (x .name) (ltb-true _ _ (h .0)), k .1)
 
-      unused : (eqb (x .p) 0 && eqb (x .q) 0) ≡ true →
-          (ltb (side-number (x .side)) 2 && ltb (x .name) (array-count f) && true && eqb (x .p) 0 && eqb (x .q) 0) ≡ true
-      unused u = let k = and-out (eqb (x .p) 0) (eqb (x .q) 0) u in rw (side-fits (x .side), arrayed .counted, h .0, k .0, k .1)
+      unused : (eqb (x .step) 0 && (eqb (x .p) 0 && eqb (x .q) 0)) ≡ true →
+          (ltb (side-number (x .side)) 2 && ltb (x .name) (array-count f) && eqb (x .step) 0 && eqb (x .p) 0 && eqb (x .q) 0) ≡ true
+      unused u =
+          let k₁ = and-out (eqb (x .step) 0) _ u in
+          let k₂ = and-out (eqb (x .p) 0) (eqb (x .q) 0) (k₁ .1) in
+          rw (side-fits (x .side), arrayed .counted, h .0, k₁ .0, k₂ .0, k₂ .1)
 
       go : (v : Verb) → cells-fit layout (as-verb v x) ≡ true → fields-fit f (action-fields (as-verb v x)) ≡ true
       go read u = ranged u
@@ -206,8 +208,11 @@ module _ (f : List ℕ) (b low : ℕ) (layout : Layout) (arrayed : Arrayed f lay
       go need u = unused u
       go mark u = unused u
 
-  pub block-walks : (x : Block Action) (levels depth around r : ℕ) → block-fits layout levels x ≡ true → depth + levels ≤ deepest f + 1 → 1 ≤ around → around * largest x ≤ 4096 → low ≤ r → Holds (fields-at f) r (block-fields x) → Walks f b depth around r (r + size x)
-  block-walks = walks-of action-fields (action-fits layout) f b low (λ r x l e. may r x l (held-kind (x .kind) e)) plain
+-- where the records from `low` on may be of the kinds 1 to 7 and 9, and an action that passes the test has fields that fit
+module _ (f : List ℕ) (b low : ℕ) (may : (r : ℕ) (x : Fields) → low ≤ r → acts-or-nests x ≡ true → allowed f b r x ≡ true)
+    (fits : Action → Bool) (fit : (x : Action) → fits x ≡ true → fields-fit f (action-fields x) ≡ true) where
+  pub block-walks : (x : Block Action) (levels depth around r : ℕ) → nested-within fits levels x ≡ true → depth + levels ≤ deepest f + 1 → 1 ≤ around → around * largest x ≤ 4096 → low ≤ r → Holds (fields-at f) r (block-fields x) → Walks f b depth around r (r + size x)
+  block-walks = walks-of action-fields fits f b low (λ r x l e. may r x l (held-kind (x .kind) e)) plain
     where
       held-kind : (k : ℕ) → (between 6 7 k || eqb k 9) ≡ true → (between 1 7 k || eqb k 9) ≡ true
       held-kind k e = elim (or-out (between 6 7 k) (eqb k 9) e) [
@@ -215,7 +220,7 @@ module _ (f : List ℕ) (b low : ℕ) (layout : Layout) (arrayed : Arrayed f lay
         | inr u ↦ or-right (between 1 7 k) (eqb k 9) u
       ]
 
-      plain : (x : Action) (r : ℕ) → low ≤ r → action-fits layout x ≡ true → PlainAt f b r (action-fields x)
+      plain : (x : Action) (r : ℕ) → low ≤ r → fits x ≡ true → PlainAt f b r (action-fields x)
       plain x r l e =
           let kinds = action-kind (x .verb) in
-          record { fits = action-fit x e; may = may r (action-fields x) l (or-left (between 1 7 (kind (x .verb))) _ (kinds .0)); leaf = kinds .1 }
+          record { fits = fit x e; may = may r (action-fields x) l (or-left (between 1 7 (kind (x .verb))) _ (kinds .0)); leaf = kinds .1 }

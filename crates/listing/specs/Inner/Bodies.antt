@@ -15,7 +15,7 @@ fields-in body i =
       kind = byte-at body at;
       side = byte-at body (at + 1);
       array = byte-at body (at + 2);
-      zero = byte-at body (at + 3);
+      step = byte-at body (at + 3);
       p = u16-at body (at + 4);
       q = u16-at body (at + 6);
     }

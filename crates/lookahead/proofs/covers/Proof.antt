@@ -10,14 +10,11 @@ cast-if1 c = search needs
 returns : tie.Need-returns
 returns c = covers-other _ _ _ (c .if1 .taken)
 
-cast-result : tie.Need-cast-result
-cast-result c = search needs
-
-cast-result-2 : tie.Need-cast-result-2
-cast-result-2 c = search needs
+steps-on-requires : tie.Need-steps-on-requires
+steps-on-requires c κs = search needs
 
 returns-2 : tie.Need-returns-2
-returns-2 c = covers-own _ _ _ (c .before .before .before .if1 .left)
+returns-2 c = rw (c .steps-on .ensures) (covers-own _ _ _ (c .before .before .if1 .left))
 
 pub covers-spec : {M : Type 1} → statement M
-covers-spec = tie.close (tie.spec cast-if1 returns cast-result cast-result-2 returns-2)
+covers-spec = tie.close (tie.spec cast-if1 returns steps-on-requires returns-2)

@@ -7,6 +7,7 @@ use mathlib.Core.List.{List}
 use lib.Dec.{eqb, leb, ltb}
 use lib.ListN.{length, getD}
 use Rattle.model.specs.Sides.{span-of}
+use Rattle.model.specs.Records.{distance, stepped}
 use Rattle.reading.specs.declared.Fields.{Fields}
 use Rattle.reading.specs.Bytes.{layout-of, record-count, fields-at, first-arm, second-arm}
 
@@ -16,7 +17,7 @@ cell-at f array offset = span-of (layout-of f) array .first + offset
 
 -- whether a record of kind 1 to 5 covers cell `offset` of an array
 unfoldable pub covers : Fields → ℕ → ℕ → Bool
-covers x array offset = eqb array (x .array) && (leb 4 (x .kind) || (leb (x .p) offset && ltb offset (x .q)))
+covers x array offset = eqb array (x .array) && (leb 4 (x .kind) || stepped (distance (x .step)) (x .p) (x .q) offset)
 
 -- the first record from r on that concerns the cell, where `next` is the first one after r: a record that covers it, or a branch or loop
 -- that holds one which does

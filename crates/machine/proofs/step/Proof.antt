@@ -1,6 +1,5 @@
 -- `step` is one step of the definition of a run, it lowers the measure, and it leaves the cells past the plan's.
 use Prim.Native.Nat.{_+_, _≤_, _<_}
-use mathlib.Core.Path.{sym, _∙_}
 use native.Mathlib.Omega.{arith}
 use lib.ListN.{getD}
 use Rattle.model.specs.Sides.{cell-count}
@@ -108,6 +107,9 @@ first-cell-requires c κs = search needs
 next-cell-requires : tie.Need-next-cell-requires
 next-cell-requires c κs = search needs
 
+cast-step : tie.Need-cast-step
+cast-step c = search needs
+
 is-whole-requires : tie.Need-is-whole-requires
 is-whole-requires c κs = search needs
 
@@ -116,15 +118,15 @@ acted-on-requires c κs = search needs
 
 act-requires : tie.Need-act-requires
 act-requires c κs =
-    let n = c .before .before .before .before .before in
+    let n = c .before .before .before .before .before .before in
     let fc = n .before .first-cell .ensures in
     let nc = n .next-cell .ensures in
     let r = able-here (n .before .before) in
     let s = c .before .before .before .acted-on .ensures (n .before .before .before .before .before .before .before .before .before .before .before .before .before .before .before .before .before .args .room .now) in
-    (rw s (r .low), rw (s, fc, nc) (r .sure), r .kind .0, r .kind .1, r .array, rw (fc, nc) (r .rooms))
+    (rw s (r .low), rw (s, fc, nc) (r .sure), r .kind .0, r .kind .1, r .array, rw (fc, nc) (r .rooms (omega arith)))
 
 after-requires : tie.Need-after-requires
-after-requires c κs = let w = c .before .before .before .before .before .before .before .before .before .before .before .before .before .before .before .before .before .before .before .before .before .before .before .before .before .before .before .before .before .before .pre .1 .stands .placed in (able-here (c .before .before .before .before .before .before .before .before .before .before .before .before .before .before .before) .few, w .shallow, w .size)
+after-requires c κs = let w = c .before .before .before .before .before .before .before .before .before .before .before .before .before .before .before .before .before .before .before .before .before .before .before .before .before .before .before .before .before .before .before .pre .1 .stands .placed in (able-here (c .before .before .before .before .before .before .before .before .before .before .before .before .before .before .before .before) .few, w .shallow, w .size)
 
 tally-after-requires : tie.Need-tally-after-requires
 tally-after-requires c κs = search needs
@@ -143,7 +145,7 @@ same-length-5 c = search needs
 
 returns-3 : tie.Need-returns-3
 returns-3 c =
-    let n = c .before .before .before .before .before .before .before .before .before .before .before .before .before .before .before in
+    let n = c .before .before .before .before .before .before .before .before .before .before .before .before .before .before .before .before in
     let fc = n .before .first-cell .ensures in
     let nc = n .next-cell .ensures in
     let able = n .before .before in
@@ -152,7 +154,7 @@ returns-3 c =
     let x = able .before .before .before .before .before .record-at in
     let v = c .before .before .before .before .before .before .before .before .before .act in
     let there = array-there (able .before .before) in
-    let acts = v .ensures .0 (layout-of (a .args .plan .now)) (rw (fc, nc) (r .spans)) (λ z. rw (fc, nc) (r .whole (rw (fc, nc) at (sym (c .before .before .before .before .before .before .before .before .before .before .before .before .before .before .is-whole .ensures) ∙ z)))) in
+    let acts = v .ensures .0 (layout-of (a .args .plan .now)) (rw (fc, nc) (r .spans)) (λ z. rw (fc, nc) (r .whole (rw (c .before .before .before .before .before .before .before .before .before .before .before .before .before .before .is-whole .ensures, fc, nc) at z))) in
     let held = rw (c .before .before .before .before .before .before .before .before .before .before .before .before .before .acted-on .ensures (a .args .room .now)) at acts in
     let i : n .next-cell .result ≤ cell-count (layout-of (a .args .plan .now)) = rw nc (r .inside) in
     ensured _ _ _ _ _ _ _ _ _ _ _ _ _ (a .pre .1)
@@ -177,6 +179,7 @@ step-spec =
     slice-read-next
     first-cell-requires
     next-cell-requires
+    cast-step
     is-whole-requires
     acted-on-requires
     act-requires

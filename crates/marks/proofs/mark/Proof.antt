@@ -1,40 +1,21 @@
--- `marks::mark` marks the cells of a range. The invariant: the cells from `from` up to c are marked.
+-- `marks::mark` marks the cells of a record by the loop that fits its step.
 use mathlib.Core.Path.{_≡_}
-use mathlib.Core.Bool.{_&&_}
-use Prim.Native.Nat.{_-_, _≤_}
 use native.Mathlib.Omega.{arith}
-use lib.Dec.{leb, ltb}
-use Rattle.marks.specs.Inner.Marks.{Adds}
-use Rattle.marks.proofs.Marks.{range-none, range-next}
 use borrow.Author.Needs.{needs}
 use Rattle.marks.proofs.mark.Statement.{statement}
 use Rattle.marks.proofs.mark.Tie as tie
 
-abbrev Inv-loop : tie.InvT-loop
-Inv-loop set₀ from end c₀ set c = (from ≤ c) × (c ≤ end) × Adds set₀ set (λ k. leb from k && ltb k c)
+mark-range-requires : tie.Need-mark-range-requires
+mark-range-requires c κs = search needs
 
-abbrev μ-loop : tie.MeasureT-loop
-μ-loop set₀ from end c₀ set c = end - c
+mark-steps-requires : tie.Need-mark-steps-requires
+mark-steps-requires c κs = search needs
 
-loop-holds : tie.Need-loop-holds Inv-loop μ-loop
-loop-holds c = (search needs, c .pre .0, range-none _ _ (c .pre .2))
+returns : tie.Need-returns
+returns c = let each : c .before .before .before .before .args .cells .step ≡ 1 = omega (arith, c .before .before .if1 .taken) in rw each (c .mark-range .ensures)
 
-element-write-set : tie.Need-element-write-set Inv-loop μ-loop
-element-write-set c = search needs
-
-add-c : tie.Need-add-c Inv-loop μ-loop
-add-c c = search needs
-
-loop-less : tie.Need-loop-less Inv-loop μ-loop
-loop-less c = search needs
-
-loop-again : tie.Need-loop-again Inv-loop μ-loop
-loop-again c = (omega arith, omega arith, range-next _ _ _ _ (omega arith) (c .before .loop .inv .0) (c .before .loop .inv .2))
-
-returns : tie.Need-returns Inv-loop μ-loop
-returns c = let n : c .before .loop .c ≡ c .before .before .args .end = omega arith in rw n at (c .before .loop .inv .2)
+returns-2 : tie.Need-returns-2
+returns-2 c = search needs
 
 pub mark-spec : {M : Type 1} → statement M
-mark-spec =
-    tie.close
-    (tie.spec Inv-loop μ-loop loop-holds element-write-set add-c loop-less loop-again returns)
+mark-spec = tie.close (tie.spec mark-range-requires mark-steps-requires returns returns-2)

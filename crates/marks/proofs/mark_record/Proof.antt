@@ -22,12 +22,13 @@ mark-requires : tie.Need-mark-requires
 mark-requires c κs =
     let w = c .before .before .before .before .before .before .before .before .pre .1 (c .before .before .before .before .before .before .if1 .left) in
     let k = le-leb (c .before .before .before .before .before .before .before .before .args .x .kind) 3 (omega arith) in
-    let first = rw k at (c .before .cells-of .ensures .0) in
-    let last = rw k at (c .before .cells-of .ensures .1) in
-    (omega arith, omega arith, c .before .before .before .before .before .before .before .before .pre .0)
+    let last = rw k at (c .before .cells-of .ensures .1 .0) in
+    let step = rw k at (c .before .cells-of .ensures .1 .1) in
+    let x = c .before .before .before .struct-known3 .given in
+    (c .before .before .before .before .before .before .before .before .pre .0, omega arith, omega arith, omega arith)
 
 returns-2 : tie.Need-returns-2
-returns-2 c = hits-write _ _ _ _ (c .before .before .before .before .before .before .before .if1 .left) (c .before .before .before .if2 .taken) _ _ (c .before .before .cells-of .ensures .0) (c .before .before .cells-of .ensures .1) _ (c .mark .ensures)
+returns-2 c = hits-write _ _ _ _ (c .before .before .before .before .before .before .before .if1 .left) (c .before .before .before .if2 .taken) _ _ (c .before .before .cells-of .ensures .0) (c .before .before .cells-of .ensures .1 .0) _ (c .before .before .cells-of .ensures .1 .1) _ (c .mark .ensures)
 
 returns-3 : tie.Need-returns-3
 returns-3 c = hits-side _ _ _ _ (c .before .before .before .before .before .before .pre .0) (c .if2 .left)

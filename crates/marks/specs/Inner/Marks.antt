@@ -4,14 +4,15 @@ use Prim.Native.Nat.{ℕ, zero, suc, _+_, _-_, _≤_, _<_}
 use mathlib.Core.Path.{_≡_}
 use mathlib.Core.Bool.{Bool, true, false, not, _&&_, _||_}
 use mathlib.Core.List.{List}
-use lib.Dec.{leb, ltb, eqb}
+use lib.Dec.{eqb}
 use lib.ListN.{length, getD}
 use Rattle.model.specs.Inner.Holders.{array-of}
 use Rattle.model.specs.Sides.{cell-count, span-of}
+use Rattle.model.specs.Records.{stepped}
 use Rattle.model.specs.Judging.{always-writes}
 use Rattle.reading.specs.declared.Fields.{Fields}
 use Rattle.reading.specs.Bytes.{array-count, layout-of}
-use Rattle.reading.specs.Inner.Cells.{from-of, to-of}
+use Rattle.reading.specs.Inner.Cells.{from-of, to-of, step-of}
 use Rattle.format.specs.Plans.{side-of}
 use Rattle.format.specs.Inner.Walks.{block-between}
 
@@ -41,7 +42,7 @@ unfoldable pub hits : List ℕ → List ℕ → Fields → ℕ → Bool
 hits starts sides x c =
     let first = getD starts (x .array) 0 in
     let next = getD starts (x .array + 1) 0 in
-    eqb (x .kind) 2 && (eqb (x .side) (getD sides (x .array) 0) && (leb (from-of x first) c && ltb c (to-of x first next)))
+    eqb (x .kind) 2 && (eqb (x .side) (getD sides (x .array) 0) && stepped (step-of x) (from-of x first) (to-of x first next) c)
 
 -- whether every way through the records r up to `end` writes cell c on the side for its array
 unfoldable pub always : List ℕ → List ℕ → ℕ → ℕ → ℕ → Bool

@@ -10,7 +10,7 @@ use Rattle.memories.proofs.copy_blocks.Tie as tie
 use Rattle.memories.proofs.copy_four.Reads as copy-four-reads
 
 abbrev Inv-loop : tie.InvT-loop
-Inv-loop source target₀ from to low c₀ target c = (from ≤ c) × (c ≤ to) × Changed c to (λ k. getD source k 0) target₀ target
+Inv-loop source target₀ from to low c₀ target c = (from ≤ c) × (c ≤ to) × Changed 1 c to (λ k. getD source k 0) target₀ target
 
 abbrev μ-loop : tie.MeasureT-loop
 μ-loop source target₀ from to low c₀ target c = c
@@ -19,13 +19,13 @@ sub-if1 : tie.Need-sub-if1 Inv-loop μ-loop
 sub-if1 c = search needs
 
 returns : tie.Need-returns Inv-loop μ-loop
-returns c = (c .before .before .before .pre .0 .order, omega arith, changed-none _ _ _)
+returns c = (c .before .before .before .pre .0 .order, omega arith, changed-none (omega arith))
 
 add-low : tie.Need-add-low Inv-loop μ-loop
 add-low c = search needs
 
 loop-holds : tie.Need-loop-holds Inv-loop μ-loop
-loop-holds c = (c .before .before .before .pre .0 .order, omega arith, changed-none _ _ _)
+loop-holds c = (c .before .before .before .pre .0 .order, omega arith, changed-none (omega arith))
 
 sub-c : tie.Need-sub-c Inv-loop μ-loop
 sub-c c = search needs

@@ -11,7 +11,7 @@ use Rattle.memories.proofs.copy_cells.Tie as tie
 use Rattle.memories.proofs.copy_blocks.Reads as copy-blocks-reads
 
 abbrev Inv-loop : tie.InvT-loop
-Inv-loop source target₀ from to c₀ target c = (from ≤ c) × (c ≤ c₀) × Changed c c₀ (λ k. getD source k 0) target₀ target
+Inv-loop source target₀ from to c₀ target c = (from ≤ c) × (c ≤ c₀) × Changed 1 c c₀ (λ k. getD source k 0) target₀ target
 
 abbrev μ-loop : tie.MeasureT-loop
 μ-loop source target₀ from to c₀ target c = c
@@ -20,7 +20,7 @@ copy-blocks-requires : tie.Need-copy-blocks-requires Inv-loop μ-loop
 copy-blocks-requires c κs = search needs
 
 loop-holds : tie.Need-loop-holds Inv-loop μ-loop
-loop-holds c = (c .before .before .copy-blocks .ensures .0, omega arith, changed-none _ _ _)
+loop-holds c = (c .before .before .copy-blocks .ensures .0, omega arith, changed-none (omega arith))
 
 sub-c : tie.Need-sub-c Inv-loop μ-loop
 sub-c c = search needs

@@ -10,7 +10,7 @@ memory-on-requires : tie.Need-memory-on-requires
 memory-on-requires c κs = search needs
 
 first-stale-requires : tie.Need-first-stale-requires
-first-stale-requires c κs = let p = c .before .before .before .before .pre in (room-on (c .before .before .before .before .args .on-card) (c .memory-on .ensures) (p .0) (p .1), p .2)
+first-stale-requires c κs = let p = c .before .before .before .before .pre in (p .0, room-on (c .before .before .before .before .args .on-card) (c .memory-on .ensures) (p .1) (p .2), p .3)
 
 returns : tie.Need-returns
 returns c = rw (c .before .memory-on .ensures) at (c .first-stale .ensures)

@@ -48,7 +48,7 @@ returns c =
       kind = e .before .before .before .byte .ensures i;
       side = e .before .before .byte2 .ensures i;
       array = e .before .byte3 .ensures i;
-      zero = e .byte4 .ensures i;
+      step = e .byte4 .ensures i;
       p = c .before .number-at .ensures i;
       q = c .number-at2 .ensures i;
     }
