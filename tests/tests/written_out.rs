@@ -64,7 +64,11 @@ fn write_out(plan: &Plan, what: What, part: Range<usize>, records: &mut Vec<Reco
                 records.push(Record { step: 0, p, q: p + 1, ..x });
                 was.push(r);
             }
-        } else if what == What::Layers && matches!(x.kind, READ | WRITE | COPY) && x.step <= 1 && x.q - x.p > 1 {
+        } else if what == What::Layers
+            && matches!(x.kind, READ | WRITE | COPY)
+            && x.step <= 1
+            && x.q - x.p > 1
+        {
             let step = (2 + r % 3).min(x.q - x.p);
             for p in x.p..x.p + step {
                 records.push(Record { step, p, ..x });

@@ -61,7 +61,9 @@ impl Stepping {
             Stepping::Exact => exact.contains(cell),
             Stepping::Each => inside,
             Stepping::FromArray => inside && (cell - array.start) % exact.step == 0,
-            Stepping::OnceMore => array.contains(&cell) && Covered { to: exact.to + exact.step, ..exact }.contains(cell),
+            Stepping::OnceMore => {
+                array.contains(&cell) && Covered { to: exact.to + exact.step, ..exact }.contains(cell)
+            }
             Stepping::FirstOnly => cell == exact.from,
         }
     }
