@@ -76,7 +76,7 @@ const PLACES: [u8; 143] = *b"
 ";
 
 // From this row on there is none: a record that acts nowhere.
-const NOWHERE: u8 = 90;
+const NO_ROW: u8 = 90;
 
 // The row for a record with these fields, on the host.
 fn place_row(x: Fields) -> u8
@@ -91,7 +91,7 @@ fn place_row(x: Fields) -> u8
             2
         }
         NEED | MARK | R | W | RW => 0,
-        0 | 6..=15 | 19..=255 => NOWHERE,
+        0 | 6..=15 | 19..=255 => NO_ROW,
     }
 }
 
@@ -132,7 +132,7 @@ fn step_words(page: &mut Page, at: usize, x: Fields) -> usize {
 // The rest of the line of a record that acts.
 fn place_words(page: &mut Page, at: usize, x: Fields) -> usize {
     let k = side_row(x);
-    if NOWHERE <= k {
+    if NO_ROW <= k {
         return at;
     }
     let at = row(
