@@ -263,12 +263,11 @@ fn act_mark(on_card: bool, array: u8, s: Stored) -> Acted
     })
 }
 
-// A record with the fields x, whose cells are `from` up to `to` at a step; `whole` says whether these are the first and the end of its array. Each kind looks for the side itself: one function for each side, called with the memories
+// A record with the fields x, whose cells are `from` up to `to` at its step; `whole` says whether these are the first and the end of its array. Each kind looks for the side itself: one function for each side, called with the memories
 // exchanged, stood between the compiler and its loops.
 pub fn act(
     x: Fields,
     whole: bool,
-    step: usize,
     from: usize,
     to: usize,
     s: Stored,
@@ -276,8 +275,8 @@ pub fn act(
     card: &mut [u64],
     latest: &mut [u64],
 ) -> Acted
-    requires { ⌜ Low s × Sure (s .known) (x .array) from to (now host) (now card) (now latest) × (1 ≤ x .kind) × (x .kind ≤ 5) × (x .array < 32) × Rooms step from to (now host) (now card) (now latest) ⌝ }
-    ensures follows { λ r. ⌜ ((layout : Layout) → CellsAt layout (action-of x) (distance step) from to → ((whole && leb step 1) ≡ true → ArrayAt layout (x .array) (distance step) from to) → Acts layout (action-of x) s (now (host .entry)) (now (card .entry)) (now (latest .entry)) r (now (host .exit)) (now (card .exit)) (now (latest .exit))) ⌝ }
+    requires { ⌜ Low s × Sure (s .known) (x .array) from to (now host) (now card) (now latest) × (1 ≤ x .kind) × (x .kind ≤ 5) × (x .array < 32) × Rooms (x .step) from to (now host) (now card) (now latest) ⌝ }
+    ensures follows { λ r. ⌜ ((layout : Layout) → CellsAt layout (action-of x) (distance (x .step)) from to → ((whole && leb (x .step) 1) ≡ true → ArrayAt layout (x .array) (distance (x .step)) from to) → Acts layout (action-of x) s (now (host .entry)) (now (card .entry)) (now (latest .entry)) r (now (host .exit)) (now (card .exit)) (now (latest .exit))) ⌝ }
     ensures host { λ _. ⌜ Same to (now (host .entry)) (now (host .exit)) ⌝ }
     ensures card { λ _. ⌜ Same to (now (card .entry)) (now (card .exit)) ⌝ }
     ensures latest { λ _. ⌜ Same to (now (latest .entry)) (now (latest .exit)) ⌝ }
@@ -285,6 +284,7 @@ pub fn act(
     let kind = x.kind;
     let on_card = x.side != 0;
     let array = x.array;
+    let step = x.step as usize;
     match kind {
         READ => act_read(on_card, array, step, from, to, s, host, card, latest),
         WRITE => act_write(on_card, array, whole, step, from, to, s, host, card, latest),

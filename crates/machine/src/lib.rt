@@ -53,9 +53,8 @@ pub fn step(
     let next = room[a + 1];
     let from = first_cell(x, first);
     let to = next_cell(x, first, next);
-    let step = x.step as usize;
     let whole = is_whole(from, to, first, next);
-    let r = act(x, whole, step, from, to, acted_on(m, t), host, card, latest);
+    let r = act(x, whole, from, to, acted_on(m, t), host, card, latest);
     Stepped {
         machine: after(m, r, room),
         tally: tally_after(t, r),

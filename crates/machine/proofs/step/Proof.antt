@@ -107,9 +107,6 @@ first-cell-requires c κs = search needs
 next-cell-requires : tie.Need-next-cell-requires
 next-cell-requires c κs = search needs
 
-cast-step : tie.Need-cast-step
-cast-step c = search needs
-
 is-whole-requires : tie.Need-is-whole-requires
 is-whole-requires c κs = search needs
 
@@ -118,7 +115,7 @@ acted-on-requires c κs = search needs
 
 act-requires : tie.Need-act-requires
 act-requires c κs =
-    let n = c .before .before .before .before .before .before in
+    let n = c .before .before .before .before .before in
     let fc = n .before .first-cell .ensures in
     let nc = n .next-cell .ensures in
     let r = able-here (n .before .before) in
@@ -126,7 +123,7 @@ act-requires c κs =
     (rw s (r .low), rw (s, fc, nc) (r .sure), r .kind .0, r .kind .1, r .array, rw (fc, nc) (r .rooms (omega arith)))
 
 after-requires : tie.Need-after-requires
-after-requires c κs = let w = c .before .before .before .before .before .before .before .before .before .before .before .before .before .before .before .before .before .before .before .before .before .before .before .before .before .before .before .before .before .before .before .pre .1 .stands .placed in (able-here (c .before .before .before .before .before .before .before .before .before .before .before .before .before .before .before .before) .few, w .shallow, w .size)
+after-requires c κs = let w = c .before .before .before .before .before .before .before .before .before .before .before .before .before .before .before .before .before .before .before .before .before .before .before .before .before .before .before .before .before .before .pre .1 .stands .placed in (able-here (c .before .before .before .before .before .before .before .before .before .before .before .before .before .before .before) .few, w .shallow, w .size)
 
 tally-after-requires : tie.Need-tally-after-requires
 tally-after-requires c κs = search needs
@@ -145,7 +142,7 @@ same-length-5 c = search needs
 
 returns-3 : tie.Need-returns-3
 returns-3 c =
-    let n = c .before .before .before .before .before .before .before .before .before .before .before .before .before .before .before .before in
+    let n = c .before .before .before .before .before .before .before .before .before .before .before .before .before .before .before in
     let fc = n .before .first-cell .ensures in
     let nc = n .next-cell .ensures in
     let able = n .before .before in
@@ -179,7 +176,6 @@ step-spec =
     slice-read-next
     first-cell-requires
     next-cell-requires
-    cast-step
     is-whole-requires
     acted-on-requires
     act-requires
