@@ -29,6 +29,14 @@ pub fn byte(s: &[u8], at: usize) -> u8
     if at < s.len() { s[at] } else { 0 }
 }
 
+// A byte of the header, in a plan that has its contents.
+pub fn header_byte(plan: &[u8], at: usize) -> u8
+    requires { ⌜ (at < 4) × (bodies-at (now plan) ≤ length (now plan)) ⌝ }
+    ensures { λ r. ⌜ r ≡ byte-at (now (plan .entry)) at ⌝ }
+{
+    plan[at]
+}
+
 // Where the entry of a body stands in the contents; the bodies begin where the entry after the last would.
 pub fn entry_at(plan: &[u8], body: usize) -> usize
     requires { ⌜ body < 256 ⌝ }

@@ -7,8 +7,8 @@ ghost use Rattle.reading.specs.Bytes.{array-count, length-at, declarations-in, 
 ghost use Rattle.rules.specs.Rules.{fields-fit, acts-or-nests, allowed, deepest, record-rows};
 use model::Verdict;
 use reading::Fields;
-use reading::byte;
 use reading::first_arm;
+use reading::header_byte;
 use reading::kinds::BRANCH;
 use reading::kinds::CALL;
 use reading::kinds::COPY;
@@ -47,16 +47,18 @@ pub fn fields_fit(plan: &[u8], x: Fields) -> bool
     requires { ⌜ bodies-at (now plan) ≤ length (now plan) ⌝ }
     ensures { λ r. ⌜ r ≡ fields-fit (now (plan .entry)) x ⌝ }
 {
-    let arrays = byte(plan, 1);
-    let bodies = byte(plan, 2);
-    let size = array_size(plan, arrays, x.array);
+    let arrays = header_byte(plan, 1);
+    let bodies = header_byte(plan, 2);
     let on_side = x.side < 2;
     let on_array = x.array < arrays;
     let names_none = (x.side == 0) & (x.array == 0);
     let no_step = x.step == 0;
     let kind = x.kind;
     match kind {
-        READ | WRITE | COPY => on_side & on_array & (x.p < x.q) & (x.q <= size),
+        READ | WRITE | COPY => {
+            let size = array_size(plan, arrays, x.array);
+            on_side & on_array & (x.p < x.q) & (x.q <= size)
+        }
         NEED | MARK | R | W | RW => on_side & on_array & no_step & (x.p == 0) & (x.q == 0),
         BRANCH => names_none & no_step,
         LOOP => names_none & no_step & (x.q == 0),
@@ -75,11 +77,11 @@ fn acts_or_nests(x: Fields) -> bool
 
 // Number 9: whether the kind is allowed for record r of a body whose declarations end before record `until`.
 pub fn kind_allowed(plan: &[u8], body: usize, until: usize, r: usize, x: Fields) -> bool
-    requires { ⌜ until ≡ first-record (now plan) body + declarations-in (now plan) body ⌝ }
+    requires { ⌜ (bodies-at (now plan) ≤ length (now plan)) × (until ≡ first-record (now plan) body + declarations-in (now plan) body) ⌝ }
     ensures { λ a. ⌜ a ≡ allowed (now (plan .entry)) body r x ⌝ }
 {
     let kind = x.kind;
-    if byte(plan, 0) == PLAIN {
+    if header_byte(plan, 0) == PLAIN {
         return acts_or_nests(x);
     }
     if body == 0 {
@@ -93,9 +95,10 @@ pub fn kind_allowed(plan: &[u8], body: usize, until: usize, r: usize, x: Fields)
 
 // How many branches and loops one may stand inside.
 pub fn deepest(plan: &[u8]) -> usize
+    requires { ⌜ bodies-at (now plan) ≤ length (now plan) ⌝ }
     ensures { λ r. ⌜ r ≡ deepest (now (plan .entry)) ⌝ }
 {
-    if byte(plan, 0) == PLAIN {
+    if header_byte(plan, 0) == PLAIN {
         PLAIN_DEPTH
     } else {
         DECLARED_DEPTH

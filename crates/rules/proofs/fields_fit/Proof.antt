@@ -10,23 +10,23 @@ use Rattle.rules.proofs.fields_fit.Statement.{statement}
 use Rattle.rules.proofs.fields_fit.Tie as tie
 
 -- what was read of the header and of the record's array
-sizes : (c : tie.After-array-size) → Sizes (c .before .before .before .before .args .plan .now) (c .before .before .before .before .args .x) (c .before .before .byte .result) (c .before .byte2 .result) (length-at (c .before .before .before .before .args .plan .now) (c .before .before .before .before .args .x .array))
-sizes c = record { arrays-are = c .before .before .byte .ensures; bodies-are = c .before .byte2 .ensures; size-is = refl }
+sizes : (c : tie.After-header-byte2) → Sizes (c .before .before .before .args .plan .now) (c .before .before .before .args .x) (c .before .header-byte .result) (c .header-byte2 .result) (length-at (c .before .before .before .args .plan .now) (c .before .before .before .args .x .array))
+sizes c = record { arrays-are = c .before .header-byte .ensures; bodies-are = c .header-byte2 .ensures; size-is = refl }
 
 known : (k : ℕ) → 6 ≤ k → k ≤ 9 → (k ≡ 6 → ⊥) → (k ≡ 7 → ⊥) → (k ≡ 8 → ⊥) → (k ≡ 9 → ⊥) → ⊥
 known k l h x y z w = omega arith
 
-byte-requires : tie.Need-byte-requires
-byte-requires c κs = search needs
+header-byte-requires : tie.Need-header-byte-requires
+header-byte-requires c κs = search needs
 
-byte-requires-2 : tie.Need-byte-requires-2
-byte-requires-2 c κs = search needs
-
-array-size-requires : tie.Need-array-size-requires
-array-size-requires c κs = search needs
+header-byte-requires-2 : tie.Need-header-byte-requires-2
+header-byte-requires-2 c κs = search needs
 
 cast-result : tie.Need-cast-result
 cast-result c = search needs
+
+array-size-requires : tie.Need-array-size-requires
+array-size-requires c κs = search needs
 
 returns : tie.Need-returns
 returns c = fit-branch _ _ _ _ _ (sizes (c .before .before .before .before .before .before)) (c .match .keys1)
@@ -41,7 +41,7 @@ returns-4 : tie.Need-returns-4
 returns-4 c = fit-fixed _ _ _ _ _ (sizes (c .before .before .before .before .before .before .before .before)) (c .before .before .match .keys4)
 
 returns-5 : tie.Need-returns-5
-returns-5 c = let z = c .before .before .before .match .rest .1 in fit-cells-read _ _ _ _ _ (sizes (c .before .before .before .before .before .before .before .before .before)) _ (c .before .before .before .before .before .before .before .before .before .array-size .ensures) (omega arith) (omega arith)
+returns-5 c = let z = c .before .before .before .before .match .rest .1 in fit-cells-read _ _ _ _ _ (sizes (c .before .before .before .before .before .before .before .before .before .before)) _ (c .before .before .array-size .ensures) (omega arith) (omega arith)
 
 returns-6 : tie.Need-returns-6
 returns-6 c = ⊎-elim (λ w. fit-array _ _ _ _ _ (sizes (c .before .before .before .before .before .before .before .before .before .before)) (omega arith) (omega arith)) (λ w. fit-declaration _ _ _ _ _ (sizes (c .before .before .before .before .before .before .before .before .before .before)) (omega arith) (omega arith)) (c .before .before .if2 .came)
@@ -61,10 +61,10 @@ pub fields-fit-spec : {M : Type 1} → statement M
 fields-fit-spec =
     tie.close
     (tie.spec
-    byte-requires
-    byte-requires-2
-    array-size-requires
+    header-byte-requires
+    header-byte-requires-2
     cast-result
+    array-size-requires
     returns
     returns-2
     returns-3
