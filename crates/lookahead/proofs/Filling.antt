@@ -1,7 +1,7 @@
 -- How the table of the records that concern a cell is made.
 use Prim.Native.Nat.{ℕ, _+_, _-_, _%_, _≤_, _<_}
 use mathlib.Core.Path.{_≡_, sym, _∙_}
-use mathlib.Core.Bool.{Bool, true, false, _||_, and-false}
+use mathlib.Core.Bool.{Bool, true, false, and-false}
 use mathlib.Core.List.{List}
 use native.Nat.{ℕᴺ-discrete}
 use native.Mathlib.Omega.{arith}
@@ -39,9 +39,14 @@ module _ (x : Fields) (array offset : ℕ) where
   unfolding covers
   covers-other n = rw (ne-eqb array (x .array) n)
 
-  pub covers-own : array ≡ x .array → (leb 4 (x .kind) || stepped (distance (x .step)) (x .p) (x .q) offset) ≡ covers x array offset
+  -- of its own array, a need or mark covers each cell, any other record those on its step
+  pub covers-each : array ≡ x .array → 4 ≤ x .kind → true ≡ covers x array offset
   unfolding covers
-  covers-own e = rw (eq-eqb array (x .array) e)
+  covers-each e k = rw (eq-eqb array (x .array) e, le-leb 4 (x .kind) k)
+
+  pub covers-stepped : array ≡ x .array → x .kind < 4 → stepped (distance (x .step)) (x .p) (x .q) offset ≡ covers x array offset
+  unfolding covers
+  covers-stepped e k = rw (eq-eqb array (x .array) e, lt-leb 4 (x .kind) k)
 
 -- the entry of record r, from that of the next place
 module _ (x : Fields) (array offset r next : ℕ) where

@@ -41,7 +41,10 @@ fn covers(x: Fields, array: Array, offset: usize) -> bool
     if array.0 != x.array as u16 {
         return false;
     }
-    (NEED <= x.kind) | steps_on(x, offset)
+    if NEED <= x.kind {
+        return true;
+    }
+    steps_on(x, offset)
 }
 
 // The first record from r on that concerns the cell, where `next` is the first one after r.
