@@ -29,7 +29,8 @@ uint64_t plan_body_view(const uint8_t *plan, size_t plan_length, uint64_t body);
 /* Checks a plain plan over all its runs: 0 accepted; 18 with the record and the cell where a run may stop; 1 to 11, 26. Packed as by plan_open. */
 uint64_t plan_check(const uint8_t *plan, size_t plan_length);
 
-/* Judges a declared plan: 0 accepted; 1 to 15 and 26 with the place. Packed as by plan_open. */
+/* Judges a declared plan: 0 accepted; 1 to 15 and 26 with the place. A pass that reads scratch before anything is written there is accepted: plan_check of
+   the plan's expansion finds it. Packed as by plan_open. */
 uint64_t plan_judge(const uint8_t *plan, size_t plan_length);
 
 /* Expands a declared plan into the file of a plain one: 0 accepted, the file stands at the front of the output; 1 to 17 and 26 with the place (26 of the
@@ -43,7 +44,8 @@ uint64_t plan_expansion_length(const uint8_t *plan, size_t plan_length);
 /* Runs a plain plan on lent memories and choices: 0 done; 21 with the record and its lowest unmet cell; 22 with the record whose test finds no choice;
    1 to 11, 19, 20, 26, and then nothing is changed. `tally` points to three numbers: read records, write records, cells moved. `figures` points to five numbers,
    written at done only: choices used, host flags, card flags (bit i is array i), arrays current on the host, on the card. Cells past the plan's are not
-   touched. Packed as by plan_open. */
+   touched. At the start the host holds 0 and the card 2^64 - 1, and the host's flags are set; of an array whose length has its highest bit set, which marks scratch, both hold
+   2^64 - 1 and no flag is set. Packed as by plan_open. */
 uint64_t plan_run(const uint8_t *plan, size_t plan_length, uint64_t *host, size_t host_length, uint64_t *card, size_t card_length, uint64_t *latest,
                   size_t latest_length, const uint8_t *choices, size_t choices_length, uint64_t *tally, uint64_t *figures);
 

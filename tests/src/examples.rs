@@ -91,6 +91,22 @@ pub fn layers_early() -> Vec<Step> {
     steps
 }
 
+/// A declared plan of two grids of four cells, costs and labels, and nobody has filled
+/// the labels: the card computes them from the costs, the host reads them. In each
+/// turn the host's pass comes last or, too early, first.
+pub fn labels(early: bool) -> Draft {
+    let spread = Pass {
+        declarations: vec![declare(R, CARD, 0), declare(W, CARD, 1)],
+        steps: vec![read(CARD, 0, 0, 4), write(CARD, 1, 0, 4)],
+    };
+    let look = Pass { declarations: vec![declare(R, HOST, 1)], steps: vec![read(HOST, 1, 0, 4)] };
+    let turn = if early { vec![call(2), call(1)] } else { vec![call(1), call(2)] };
+    declared_draft(&[4, SCRATCH + 4], &[Step::Loop(turn)], &[spread, look])
+}
+
+/// Two turns of it.
+pub const LABELS_CHOICES: [u8; 3] = [1, 1, 0];
+
 /// Each file of `examples/` by its name.
 pub fn examples() -> Vec<(String, Vec<u8>)> {
     let router = encode(&router());
@@ -110,6 +126,9 @@ pub fn examples() -> Vec<(String, Vec<u8>)> {
     files.push(("fill-free.plan".into(), encode(&fill(None))));
     files.push(("layers.plan".into(), encode(&Draft::plain(&[8], &layers()))));
     files.push(("layers-early.plan".into(), encode(&Draft::plain(&[8], &layers_early()))));
+    files.push(("labels.plan".into(), encode(&labels(false))));
+    files.push(("labels-early.plan".into(), encode(&labels(true))));
+    files.push(("labels.choices".into(), LABELS_CHOICES.into()));
     files.push(("none.choices".into(), vec![]));
     files.push(("old-way.plan".into(), encode(&Draft::plain(&[1], &old_way()))));
     files.push(("old-way.choices".into(), OLD_WAY_CHOICES.into()));

@@ -9,6 +9,7 @@ mod every;
 mod fixed;
 mod plain;
 mod rng;
+mod scratch;
 mod steps;
 
 pub use cases::*;
@@ -18,6 +19,7 @@ pub use every::*;
 pub use fixed::*;
 pub use plain::*;
 pub use rng::Rng;
+pub use scratch::*;
 pub use steps::*;
 
 /// A record as its eight bytes; nothing keeps it from being wrong.
@@ -89,7 +91,8 @@ pub fn flatten(steps: &[Step]) -> Vec<Raw> {
     records
 }
 
-/// What a file is made of.
+/// What a file is made of. An array is the number of its entry: its length, and
+/// the bit that marks scratch.
 #[derive(Clone, Debug)]
 pub struct Draft {
     pub kind: u8,
@@ -107,6 +110,15 @@ impl Draft {
     pub fn plain(arrays: &[u16], steps: &[Step]) -> Draft {
         let body = DraftBody { declarations: 0, records: flatten(steps) };
         Draft { kind: 2, arrays: arrays.to_vec(), bodies: vec![body] }
+    }
+
+    /// The length of an array, without the bit, and all of them.
+    pub fn length(&self, array: usize) -> usize {
+        (self.arrays[array] & !SCRATCH) as usize
+    }
+
+    pub fn lengths(&self) -> Vec<u16> {
+        self.arrays.iter().map(|entry| entry & !SCRATCH).collect()
     }
 
     pub fn records(&self) -> usize {

@@ -19,14 +19,14 @@ fn kind_of(file: &[u8]) -> u8 {
     walker::open(file).map_or(0, |plan| plan.kind.number())
 }
 
-fn match_check(file: &[u8], counts: &mut Counts) {
+pub fn match_check(file: &[u8], counts: &mut Counts) {
     let expected = packed(walker::check(file), kind_of(file));
     assert_eq!(archive::check(file), expected, "{:02X?}", &file[..file.len().min(400)]);
     *counts.entry(expected.number).or_default() += 1;
 }
 
 /// Against brute force over the whole state: for small plans.
-fn match_brute(draft: &Draft, counts: &mut Counts) {
+pub fn match_brute(draft: &Draft, counts: &mut Counts) {
     let file = encode(draft);
     let plan = walker::open(&file).unwrap();
     let expected = packed(check::verdict(check::brute(&plan)), 2);

@@ -22,7 +22,7 @@ fn kind_of(file: &[u8]) -> u8 {
     walker::open(file).map_or(0, |plan| plan.kind.number())
 }
 
-fn match_judge(file: &[u8], counts: &mut Counts) {
+pub fn match_judge(file: &[u8], counts: &mut Counts) {
     let expected = packed(walker::judge(file), kind_of(file));
     assert_eq!(archive::judge(file), expected, "{:02X?}", &file[..file.len().min(400)]);
     *counts.entry(expected.number).or_default() += 1;
@@ -54,7 +54,7 @@ fn match_length(file: &[u8]) -> u16 {
 }
 
 /// Outputs far too short, one byte short, exact and longer.
-fn match_rooms(file: &[u8], counts: &mut Counts) -> Option<Vec<u8>> {
+pub fn match_rooms(file: &[u8], counts: &mut Counts) -> Option<Vec<u8>> {
     let mut scratch = vec![0; 9000];
     let exact = match walker::expand(file, &mut scratch) {
         Verdict::Accepted => file_length(&scratch),

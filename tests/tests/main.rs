@@ -11,6 +11,7 @@ mod plancheck;
 mod planlist;
 mod programs;
 mod run;
+mod scratch;
 mod sheet;
 mod steps;
 mod streams;

@@ -30,7 +30,7 @@ fn hex(file: &[u8]) -> String {
     file.iter().take(400).map(|byte| format!("{byte:02X} ")).collect()
 }
 
-fn match_all(file: &[u8], counts: &mut Counts, views: &mut Counts) {
+pub fn match_all(file: &[u8], counts: &mut Counts, views: &mut Counts) {
     match_open(file, counts);
     let bodies = file.get(2).map_or(0, |&n| u64::from(n));
     for body in [0, 1, bodies.saturating_sub(1), bodies, bodies + 1] {

@@ -96,7 +96,8 @@ fn of_plan(plan: &Plan) -> String {
     for array in 0..plan.arrays() {
         let cells = plan.cells_of(array);
         let count = counted(cells.len(), "cell", "cells");
-        writeln!(text, "array {array}: {count}{}", numbers(", ", cells)).unwrap();
+        let scratch = if plan.is_scratch(array) { ", scratch" } else { "" };
+        writeln!(text, "array {array}: {count}{}{scratch}", numbers(", ", cells)).unwrap();
     }
     for number in 0..plan.bodies.len() {
         text += &of_body(plan, number);
@@ -320,6 +321,20 @@ fn seeded_steps() {
         match_listing(&encode(&Draft::plain(&[9], &[every(step, read(0, 0, 3, 9))])), &mut counts);
     }
     assert!(counts.get(&0).is_some_and(|&n| n >= 50));
+}
+
+/// Scratch in words.
+#[test]
+fn seeded_scratch() {
+    let mut rng = Rng::new(117);
+    let mut counts = Counts::new();
+    for _ in 0..300 {
+        match_listing(&any_scratch_file(&mut rng), &mut counts);
+    }
+    for entry in [1, 2, 4096, SCRATCH + 1, SCRATCH + 2, SCRATCH + 4096, SCRATCH, SCRATCH + 4097] {
+        match_listing(&encode(&Draft::plain(&[entry], &[])), &mut counts);
+    }
+    assert!([0, 4].iter().all(|number| counts.get(number).is_some_and(|&n| n >= 10)));
 }
 
 /// Fixed loops, and files that say 26.

@@ -13,10 +13,10 @@ type Counts = BTreeMap<u16, usize>;
 
 /// What a run is lent: host, card and latest, the tally, the figures of its end.
 #[derive(Clone, Debug, PartialEq, Eq)]
-struct Lent {
-    memories: [Vec<u64>; 3],
-    tally: [u64; 3],
-    end: [u64; 5],
+pub struct Lent {
+    pub memories: [Vec<u64>; 3],
+    pub tally: [u64; 3],
+    pub end: [u64; 5],
 }
 
 impl Lent {
@@ -32,7 +32,7 @@ impl Lent {
     }
 
     /// Memories that are longer than the plan's cells by `more`.
-    fn beyond(file: &[u8], more: usize) -> Lent {
+    pub fn beyond(file: &[u8], more: usize) -> Lent {
         Lent::new([cells_of(file) + more; 3])
     }
 
@@ -73,7 +73,7 @@ fn cells_of(file: &[u8]) -> usize {
 
 /// The same run by both: the answer and all that was lent, whole, are compared
 /// and given.
-fn match_run(file: &[u8], choices: &[u8], lent: &Lent, counts: &mut Counts) -> (Answer, Lent) {
+pub fn match_run(file: &[u8], choices: &[u8], lent: &Lent, counts: &mut Counts) -> (Answer, Lent) {
     let (mut ours, mut theirs) = (lent.clone(), lent.clone());
     let expected = theirs.walker(file, choices);
     let answer = ours.library(file, choices);

@@ -126,26 +126,39 @@ fn the_largest_plan_file() {
     }
 }
 
-/// The line that the README gives for scripts, in sh and in make.
+fn by_make(line: &str) -> bool {
+    let mut child = Command::new("make");
+    child.args(["-s", "-f", "-"]).stdin(Stdio::piped()).stdout(Stdio::null()).stderr(Stdio::null());
+    let mut child = child.current_dir(ROOT).spawn().unwrap();
+    write!(child.stdin.take().unwrap(), "all:\n\t{line}\n").unwrap();
+    child.wait().unwrap().success()
+}
+
+fn by_sh(line: &str) -> bool {
+    let mut child = Command::new("sh");
+    child.args(["-c", line]).current_dir(ROOT).stderr(Stdio::null());
+    child.status().unwrap().success()
+}
+
+/// A line that the README gives for scripts, in sh and in make, for other plans in
+/// place of its own.
+fn a_script_asks(command: &str, own: &str, plans: &[(&str, bool)]) {
+    let page = read_to_string(Path::new(ROOT).join("README.md")).unwrap();
+    assert!(page.contains(command), "the README has another line");
+    for &(plan, accepted) in plans {
+        let mut line = command.replace(own, plan);
+        for name in ["planexpand", "plancheck"] {
+            line = line.replace(&format!("target/bin/{name}"), path(name).to_str().unwrap());
+        }
+        assert_eq!(by_sh(&line), accepted, "sh: {line}");
+        assert_eq!(by_make(&line), accepted, "make: {line}");
+    }
+}
+
 #[test]
 fn a_script_asks_for_the_verdict() {
-    let page = read_to_string(Path::new(ROOT).join("README.md")).unwrap();
     let command = "target/bin/plancheck < examples/router.plan | grep -q '^[12] 0 '";
-    assert!(page.contains(command), "the README has another line");
-    let make = |line: &str| {
-        let mut child = Command::new("make");
-        child.args(["-s", "-f", "-"]).stdin(Stdio::piped()).stdout(Stdio::null()).stderr(Stdio::null());
-        let mut child = child.current_dir(ROOT).spawn().unwrap();
-        write!(child.stdin.take().unwrap(), "all:\n\t{line}\n").unwrap();
-        child.wait().unwrap().success()
-    };
-    let sh = |line: &str| {
-        let mut child = Command::new("sh");
-        child.args(["-c", line]).current_dir(ROOT).stderr(Stdio::null());
-        child.status().unwrap().success()
-    };
-    let program = path("plancheck");
-    for (plan, accepted) in [
+    let plans = [
         ("examples/router.plan", true),
         ("examples/case-02.plan", true),
         ("examples/case-03.plan", false),
@@ -153,10 +166,20 @@ fn a_script_asks_for_the_verdict() {
         ("README.md", false),
         ("/dev/null", false),
         ("examples", false),
-    ] {
-        let line = command.replace("examples/router.plan", plan);
-        let line = line.replace("target/bin/plancheck", program.to_str().unwrap());
-        assert_eq!(sh(&line), accepted, "sh: {line}");
-        assert_eq!(make(&line), accepted, "make: {line}");
-    }
+    ];
+    a_script_asks(command, "examples/router.plan", &plans);
+}
+
+#[test]
+fn a_script_asks_for_the_verdict_of_an_expansion() {
+    let command = "target/bin/planexpand < examples/labels.plan | target/bin/plancheck | grep -q '^2 0 '";
+    let plans = [
+        ("examples/labels.plan", true),
+        ("examples/labels-early.plan", false),
+        ("examples/router.plan", true),
+        ("examples/case-02.plan", false),
+        ("README.md", false),
+        ("examples", false),
+    ];
+    a_script_asks(command, "examples/labels.plan", &plans);
 }

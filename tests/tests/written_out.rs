@@ -46,7 +46,7 @@ impl WrittenOut {
             write_out(plan, what, body.steps(), &mut records, &mut was);
             bodies.push(Body { first, count: records.len() - first, declarations: body.declarations });
         }
-        WrittenOut { plan: Plan::new(plan.kind, &plan.lengths(), bodies, records), was }
+        WrittenOut { plan: plan.like(plan.kind, bodies, records), was }
     }
 }
 

@@ -1,16 +1,17 @@
 -- A cell that no record tells apart from the cell before it in its array stops only where that one does.
 use Prim.Native.Nat.{ℕ, zero, suc, _+_, _≤_, _<_}
-use mathlib.Core.Path.{_≡_, refl, sym, _∙_}
+use mathlib.Core.Path.{_≡_, refl, sym, ap, _∙_, subst}
 use mathlib.Core.Logic.{inl, inr}
 use mathlib.Core.List.{List}
 use native.Mathlib.Decide.{decLt}
 use native.Mathlib.Omega.{arith}
-use Rattle.model.specs.Sides.{Layout, span-of}
+use Rattle.model.specs.Sides.{Layout, span-of, is-scratch}
 use Rattle.model.specs.Records.{Action, covers as covers-cell}
 use Rattle.model.specs.Blocks.{Block, done, act, branch, loop, fixed}
 use Rattle.model.specs.Inner.Holders.{array-of}
-use Rattle.model.proofs.Numbering.{array-from}
-use Rattle.model.proofs.Status.{Status, met-in, status-after}
+use Rattle.model.specs.Effects.{start}
+use Rattle.model.proofs.Numbering.{array-from, array-ends}
+use Rattle.model.proofs.Status.{Status, at-start, status-of, met-in, status-after, start-status}
 use Rattle.model.proofs.Through.{Star, stay, more, Power, Goes, Stops, StopsAt}
 use Rattle.reading.specs.Bytes.{layout-of, record-count, fields-at}
 use Rattle.format.specs.Plans.{plan-of}
@@ -18,7 +19,6 @@ use Rattle.format.specs.Inner.Walks.{Plain, Walkable, block-between}
 use Rattle.format.proofs.Walking.{opened-facts}
 use Rattle.format.proofs.Trees.{is-branch, is-loop, is-fixed, is-leaf, shape, acts, block-none, block-branch, block-loop, block-fixed, block-act, plain-walk, plain-body}
 use Rattle.format.proofs.Acts.{here}
-use Rattle.statuses.specs.Inner.Sets.{at-start}
 use Rattle.lookahead.specs.Inner.Ahead.{cell-at, covers}
 use Rattle.summary.proofs.Actions.{act-covers}
 
@@ -79,6 +79,13 @@ module _ (layout : Layout) (c d : ℕ) (own : array-of layout c ≡ array-of lay
   stops-alike (fixed k n x b) a u r (inr s) =
       inr (s .0, power-alike x (goes-alike x (a .0)) (suc n) u (s .0) (s .1), stops-alike b (a .1) (s .0) r (s .2))
 
+-- a cell starts as its array does
+pub first-status : (f : List ℕ) (array offset : ℕ) → offset < span-of (layout-of f) array .length →
+    status-of (layout-of f) (cell-at f array offset) (start (layout-of f)) ≡ at-start (is-scratch (layout-of f) array)
+first-status f array offset inside =
+    start-status (layout-of f) (cell-at f array offset) (omega (arith, array-ends (layout-of f) array))
+    ∙ ap (λ a. at-start (is-scratch (layout-of f) a)) (array-from (layout-of f) array (cell-at f array offset) (omega arith) (omega arith))
+
 -- a cell that no record tells apart from the cell before it in its array
 module _ (f : List ℕ) (bodies : ℕ) (w : Plain f bodies) (array offset : ℕ) (inside : suc offset < span-of (layout-of f) array .length)
     (alike : (k : ℕ) → k < record-count f → covers (fields-at f k) array (suc offset) ≡ covers (fields-at f k) array offset) where
@@ -110,7 +117,11 @@ module _ (f : List ℕ) (bodies : ℕ) (w : Plain f bodies) (array offset : ℕ)
   -- it stops only where that one does
   pub stop-alike : (r : ℕ) → StopsAt (plan-of f) r (cell-at f array (suc offset)) → StopsAt (plan-of f) r (cell-at f array offset)
   unfolding plan-of
-  stop-alike r =
+  stop-alike r s =
       let o = opened-facts f (w .opens) in
+      let u = at-start (is-scratch (layout-of f) array) in
+      let same : Stops (layout-of f) (cell-at f array (suc offset)) (plan-of f .body) u r → Stops (layout-of f) (cell-at f array offset) (plan-of f .body) u r =
       rw (plain-body f) (stops-alike (layout-of f) (cell-at f array (suc offset)) (cell-at f array offset) own (block-between f 0 (record-count f))
-      (block-alike (record-count f) 0 (record-count f) (plain-walk f o (w .plain)) (omega arith) (omega arith)) at-start r)
+      (block-alike (record-count f) 0 (record-count f) (plain-walk f o (w .plain)) (omega arith) (omega arith)) u r) in
+      subst (λ v. Stops (layout-of f) (cell-at f array offset) (plan-of f .body) v r) (sym (first-status f array offset (omega arith)))
+      (same (subst (λ v. Stops (layout-of f) (cell-at f array (suc offset)) (plan-of f .body) v r) (first-status f array (suc offset) inside) s))

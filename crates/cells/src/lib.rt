@@ -2,14 +2,15 @@
 ghost use mathlib.Core.Path.{_≡_};
 ghost use Prim.Native.Nat.{ℕ, _+_, _≤_, _<_};
 ghost use lib.ListN.{getD};
-ghost use Rattle.model.specs.Sides.{span-of};
+ghost use Rattle.model.specs.Sides.{span-of, is-scratch};
 ghost use Rattle.model.specs.Check.{Answers};
+ghost use Rattle.model.specs.Inner.Statuses.{at-start};
 ghost use Rattle.model.specs.Inner.Stops.{StopsAt};
 ghost use Rattle.model.specs.Inner.Lowest.{Least, Fits};
 ghost use Rattle.reading.specs.Bytes.{array-count, layout-of, record-count};
 ghost use Rattle.format.specs.Plans.{plan-of};
 ghost use Rattle.format.specs.Inner.Walks.{Plain, Starts};
-ghost use Rattle.statuses.specs.Inner.Sets.{record-of};
+ghost use Rattle.statuses.specs.Inner.Sets.{index, record-of};
 ghost use Rattle.lookahead.specs.Inner.Ahead.{cell-at, Spare};
 ghost use Rattle.summary.specs.Inner.Ways.{Room};
 ghost use Rattle.classes.specs.Inner.Marks.{Marked};
@@ -23,12 +24,13 @@ use model::Array;
 use model::Cell;
 use model::Verdict;
 use reading::kinds::STARTS;
+use reading::scratch_at;
 use statuses::acts::NONE;
-use statuses::acts::START;
+use statuses::acts::start_of;
 use statuses::sets::only;
 use summary::block;
 
-// The lowest record at which cell c, cell `offset` of an array, can stop, NONE if there is none.
+// The lowest record at which cell c, cell `offset` of an array whose cells start with status `start`, can stop, NONE if there is none.
 fn stop_of(
     plan: &[u8],
     bodies: usize,
@@ -38,8 +40,9 @@ fn stop_of(
     array: Array,
     offset: usize,
     c: usize,
+    start: usize,
 ) -> u16
-    requires { ⌜ Plain (now plan) bodies × (records ≡ record-count (now plan)) × (offset < span-of (layout-of (now plan)) (array .0) .length) × (c ≡ cell-at (now plan) (array .0) offset) × (c < 4096) × Room (now plan) c (now rows) × Spare (now plan) (now ahead) ⌝ }
+    requires { ⌜ Plain (now plan) bodies × (records ≡ record-count (now plan)) × (offset < span-of (layout-of (now plan)) (array .0) .length) × (c ≡ cell-at (now plan) (array .0) offset) × (c < 4096) × Room (now plan) c (now rows) × Spare (now plan) (now ahead) × (start ≡ index (at-start (is-scratch (layout-of (now plan)) (array .0)))) ⌝ }
     ensures { λ k. ⌜ Least (record-of k) (λ r. StopsAt (plan-of (now (plan .entry))) r c) × Room (now (plan .entry)) (c + 1) (now (rows .exit)) × Spare (now (plan .entry)) (now (ahead .exit)) ⌝ }
 {
     look_ahead(plan, bodies, records, array, offset, ahead);
@@ -49,7 +52,7 @@ fn stop_of(
         rows,
         ahead,
         c as u32 + 1,
-        only(START),
+        only(start),
         NONE,
         0,
         records,
@@ -88,10 +91,21 @@ fn over_array(
     requires { ⌜ Plain (now plan) bodies × (records ≡ record-count (now plan)) × Marked (now plan) (record-count (now plan)) (now m) × Span (now plan) (array .0) first next × Fits first (StopsAt (plan-of (now plan))) before × Room (now plan) first (now rows) × Spare (now plan) (now ahead) ⌝ }
     ensures { λ r. ⌜ Fits next (StopsAt (plan-of (now (plan .entry)))) r × Room (now (plan .entry)) next (now (rows .exit)) × Spare (now (plan .entry)) (now (ahead .exit)) ⌝ }
 {
+    let start = start_of(scratch_at(plan, array.0 as usize));
     let mut v = before;
     let mut c = first;
     while c < next {
-        let k = stop_of(plan, bodies, records, rows, ahead, array, c - first, c);
+        let k = stop_of(
+            plan,
+            bodies,
+            records,
+            rows,
+            ahead,
+            array,
+            c - first,
+            c,
+            start,
+        );
         v = with_cell(v, Cell(c as u16), k);
         c = next_class(m, c + 1, next);
     }

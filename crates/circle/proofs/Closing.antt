@@ -1,4 +1,5 @@
--- No run of what the expander writes is stopped, and at done the cells moved are those that demand 3's moves come to.
+-- No run of what the expander writes is stopped, where it has no scratch or passes the check, and at done the cells moved are those that
+-- demand 3's moves come to.
 use Prim.Native.Nat.{ℕ, _≤_, _<_}
 use mathlib.Core.Path.{_≡_, refl, ap, sym, _∙_, subst}
 use mathlib.Core.Logic.{_⊎_, inl, inr}
@@ -10,11 +11,11 @@ use lib.ListN.{length, getD, drop, List·getD-append}
 use borrow.Author.Tests.{le-ltb}
 use Rattle.model.specs.declared.Verdict.{Verdict}
 use Rattle.model.specs.declared.Verdict.the-variants.{Accepted, Refused}
-use Rattle.model.specs.Verdicts.{accepted}
+use Rattle.model.specs.Verdicts.{accepted, stopped-at}
 use Rattle.model.specs.Sides.{Side, host, card, at, Layout, cell-count}
 use Rattle.model.specs.Blocks.{size, largest, Plan}
 use Rattle.model.specs.Runs.{Config, Ending, finished, stopped, out-of-choices, Ends, tally}
-use Rattle.model.specs.Demand.{latest-write}
+use Rattle.model.specs.Demand.{latest-write, ScratchPasses}
 use Rattle.model.proofs.Runs.{carried}
 use Rattle.model.proofs.Stamps.{tracked}
 use Rattle.model.proofs.Rows.{skips, pass}
@@ -59,13 +60,16 @@ module _ (f : List ℕ) (judges : judged f ≡ Accepted) (small : size (expansio
 
   -- memories that hold a configuration of the run, and the reads before it
   module _ (k : Config) (x : Ending) (h : Ends (expansion-of f) (choices-of choices) k x) (m : after ≡ holding (layout-of f) k before) where
+    latest-held : (c : ℕ) → c < cell-count (layout-of f) → getD (after .latest) c 0 ≡ latest-write (layout-of f) (k .history) c
+    unfolding declared-plan-of
+    latest-held c l =
+        ap (λ (y : Lent). getD (y .latest) c 0) m
+        ∙ (held-at (cell-count (layout-of f)) (λ c. k .state .cell c .latest) (before .latest) c l
+        ∙ tracked (expansion-of f) (carried (expansion-of f) (h .run)) .latest c)
+
     one-current : (s : Side) (c : ℕ) → c < cell-count (layout-of f) → k .state .cell c .held s ≡ at (latest-write (layout-of f) (k .history) c) →
         (getD (after .host) c 0 ≡ getD (after .latest) c 0) ⊎ (getD (after .card) c 0 ≡ getD (after .latest) c 0)
-    unfolding declared-plan-of
-    one-current s c l e =
-        let n = cell-count (layout-of f) in
-        let latest = ap (λ (y : Lent). getD (y .latest) c 0) m ∙ held-at n (λ c. k .state .cell c .latest) (before .latest) c l ∙ tracked (expansion-of f) (carried (expansion-of f) (h .run)) .latest c in
-        go s e latest
+    one-current s c l e = go s e (latest-held c l)
       where
         go : (s : Side) → k .state .cell c .held s ≡ at (latest-write (layout-of f) (k .history) c) → getD (after .latest) c 0 ≡ latest-write (layout-of f) (k .history) c →
             (getD (after .host) c 0 ≡ getD (after .latest) c 0) ⊎ (getD (after .card) c 0 ≡ getD (after .latest) c 0)
@@ -81,18 +85,22 @@ module _ (f : List ℕ) (judges : judged f ≡ Accepted) (small : size (expansio
           ending = x;
           ends = h;
           holds = m;
-          side-current = λ c l. let w = d .always-current k (h .run) c l in one-current (w .0) c l (w .1);
+          side-current = λ c l written. let w = d .always-current k (h .run) c l (λ z e. written z (latest-held c l ∙ e)) in one-current (w .0) c l (w .1);
         }
 
   neither : {n p : ℕ} → answer .verdict ≡ Refused n p → (n ≡ 22 → ⊥) → DoneOrSpent (answer .verdict) → ⊥
   neither h other (inl e) = let z : _≡_ {A = ℕ} 0 1 = cc in omega arith
   neither h other (inr (r, e)) = other (cc)
 
+  not-stopped : {n c : ℕ} → answer .verdict ≡ stopped-at n c → DoneOrSpent (answer .verdict) → ⊥
+  not-stopped h (inl e) = let z : _≡_ {A = ℕ} 0 1 = cc in omega arith
+  not-stopped h (inr (r, e)) = let z : _≡_ {A = ℕ} 0 1 = cc in omega arith
+
   -- a refusal before the run is 19 or 20
   refused : (n p : ℕ) → answer .verdict ≡ Refused n p → (n ≡ 22 → ⊥) → (Roomy (cell-count (layout-of f)) before → length choices ≤ 65536 → ⊥) → ExpansionRun f choices before after answer
   refused n p h other short = record {
-    unstopped = λ r c u. let z : _≡_ {A = ℕ} 0 1 = cc in omega arith;
-    ended = λ r l. absurd (short r l);
+    unstopped = λ free r c u. let z : _≡_ {A = ℕ} 0 1 = cc in omega arith;
+    ended = λ free r l. absurd (short r l);
     kept = λ w. absurd (neither h other w);
     done = λ u. let z : _≡_ {A = ℕ} 0 1 = cc in absurd (omega arith);
   }
@@ -106,15 +114,22 @@ module _ (f : List ℕ) (judges : judged f ≡ Accepted) (small : size (expansio
       go : (x : Ending) → Ends (expansion-of f) (choices-of choices) (r .config) x → after ≡ holding (layout-of f) (r .config) before →
           answer .verdict ≡ end-of (layout-of (expansion-file f)) (choices-of choices) (r .config) x .verdict → ExpansionRun f choices before after answer
       go finished h m u = record {
-        unstopped = λ n c v. let z : _≡_ {A = ℕ} 0 1 = cc in omega arith;
-        ended = λ w l. inl u;
+        unstopped = λ free n c v. let z : _≡_ {A = ℕ} 0 1 = cc in omega arith;
+        ended = λ free w l. inl u;
         kept = λ w. kept (r .config) finished h m;
         done = λ v. adds (r .config) h (ap (λ (x : Lent). x .tally .moved) m);
       }
-      go (stopped n c) h m u = absurd (file-demand3 f judges (choices-of choices) .never-stuck (r .config) n c h)
+      go (stopped n c) h m u =
+          let stuck : ScratchPasses (declared-plan-of f) → ⊥ = λ free. file-demand3 f judges (choices-of choices) .never-stuck free (r .config) n c h in
+          record {
+            unstopped = λ free i d v. stuck free;
+            ended = λ free w l. absurd (stuck free);
+            kept = λ w. absurd (not-stopped u w);
+            done = λ v. let z : _≡_ {A = ℕ} 0 1 = cc in absurd (omega arith);
+          }
       go (out-of-choices n) h m u = record {
-        unstopped = λ n c v. let z : _≡_ {A = ℕ} 0 1 = cc in omega arith;
-        ended = λ w l. inr (n, u);
+        unstopped = λ free n c v. let z : _≡_ {A = ℕ} 0 1 = cc in omega arith;
+        ended = λ free w l. inr (n, u);
         kept = λ w. kept (r .config) (out-of-choices n) h m;
         done = λ v. let z : _≡_ {A = ℕ} 0 1 = cc in absurd (omega arith);
       }

@@ -8,7 +8,7 @@ use native.Mathlib.Decide.{decLt}
 use native.Mathlib.Omega.{arith}
 use lib.Dec.{ltb, leb, eqb}
 use lib.ListN.{length, getD}
-use borrow.Author.Tests.{ltb-true, ltb-false, le-leb}
+use borrow.Author.Tests.{ltb-true, ltb-false, le-leb, eq-eqb}
 use Rattle.model.specs.declared.Verdict.the-variants.{Accepted}
 use Rattle.model.specs.Sides.{Side, host, card, side-number, Layout, span-of}
 use Rattle.model.specs.Records.{Verb, read, write, copy, need, mark, Action, whole-of}
@@ -27,7 +27,7 @@ use Rattle.files.specs.Files.{action-fields}
 use Rattle.files.specs.Bounds.{all-pass, arrays-fit, nested-within, numbered-plan}
 use Rattle.format.specs.Inner.Walks.{Good, block-between, body0-between}
 use Rattle.reading.proofs.Ranges.{in-range}
-use Rattle.reading.proofs.Tables.{length-table, arrays-counted, array-length, next-record}
+use Rattle.reading.proofs.Tables.{length-table, arrays-counted, scratch-counted, array-length, next-record}
 use Rattle.reading.proofs.FileKinds.{not-plain}
 use Rattle.rules.proofs.Fields.{fit-declaration}
 use Rattle.rules.proofs.Rules.{Tests}
@@ -167,7 +167,8 @@ module _ (f : List ℕ) (w : Facts f) (declared : is-declared f ≡ true) where
   arrays-within =
       let few = w .bounds .header .arrays in
       let lengths = all-table (between 1 4096) (length-at f) (array-count f) (λ a h. let n = w .bounds .lengths a h in in-range 1 4096 _ (n .0) (n .1)) in
-      and-in (between 1 32 (length (table (length-at f) (array-count f)))) _ (rw (length-table (length-at f) (array-count f)) (in-range 1 32 _ (few .0) (few .1))) (and-in _ _ lengths (le-leb _ _ (w .bounds .cells-below)))
+      and-in (between 1 32 (length (table (length-at f) (array-count f)))) _ (rw (length-table (length-at f) (array-count f)) (in-range 1 32 _ (few .0) (few .1)))
+      (and-in _ _ lengths (and-in _ _ (le-leb _ _ (w .bounds .cells-below)) (eq-eqb _ _ (scratch-counted f ∙ sym (arrays-counted f)))))
 
   -- a pass whose declarations are of the plan's arrays and whose other records fit 8 levels
   abbrev called-fits : Pass → Bool
@@ -234,4 +235,5 @@ pub expansion-read : (f : List ℕ) → opening f ≡ Accepted → is-declared f
 unfolding declared-plan-of
 expansion-read f e declared few low =
     let w = opened-facts f (sym e) in
-    plain-opens (expansion-of f) (fits-in f) (fits-too f (expansion-file f) (plain-layout (expansion-of f))) (arrays-within f w declared) (block-within f w declared) low few
+    let arrays-in = arrays-within f w declared in
+    plain-opens (expansion-of f) arrays-in (fits-in f) (fits-too f (expansion-file f) (plain-layout (expansion-of f) arrays-in)) (block-within f w declared) low few

@@ -37,6 +37,11 @@ pub record Bounds (f : List ℕ) : Type 0 where
   pub records : record-count f ≤ 1024
   pub long : length f ≡ bodies-at f + 8 * record-count f + 2
 
+-- the entry of an array stands inside such a file
+pub entry-inside : (f : List ℕ) → Bounds f → (a : ℕ) → a < array-count f → 4 + 2 * a + 2 ≤ length f
+unfolding entry-at
+entry-inside f w a h = omega (arith, w .long)
+
 module _ (f : List ℕ) where
   pub header-bounds : Accepted ≡ answer-of (header-rows f) → Header f
   unfolding header-rows header-fits

@@ -10,7 +10,8 @@ use Rattle.model.specs.Rows.{Row, row, all-rows}
 use Rattle.reading.specs.Bytes.{array-count, body-count, length-at, layout-of, records-in, declarations-in, first-record, bodies-at, between, byte-at, entry-at}
 use Rattle.frame.specs.Frame.{header-rows, tail-rows}
 
--- CONTENTS. "4 array length or their total (place: array)": a length is "1 to 4,096, together at most 4,096"
+-- CONTENTS. "4 array length or their total (place: array)": a length is "1 to 4,096, together at most 4,096"; "Number 4 reads the length
+-- without that bit." (document 02)
 unfoldable pub array-rows : List ℕ → ℕ → List Row
 array-rows f a =
     row (not (between 1 4096 (length-at f a)) || ltb 4096 (span-of (layout-of f) (suc a) .first)) 4 a ∷ []

@@ -18,6 +18,7 @@ use reading::kinds::MOST_CELLS;
 use reading::kinds::MOST_RECORDS;
 use reading::kinds::NAMES;
 use reading::kinds::STARTS;
+use reading::length_at;
 use reading::number_at;
 
 // What opening gives: the answer, and what was found in a file that opens.
@@ -80,7 +81,7 @@ pub fn array_entries(plan: &[u8]) -> Arrays
     let mut cells: u16 = 0;
     let mut a: usize = 0;
     while a < arrays {
-        let n = number_at(plan, 4 + 2 * a);
+        let n = length_at(plan, a);
         if (n < 1) | (MOST_CELLS - cells < n) {
             break;
         }

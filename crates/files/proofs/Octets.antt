@@ -2,14 +2,14 @@
 use mathlib.Core.Path.{_≡_}
 use mathlib.Core.Bool.{Bool, true, false, cond, _&&_, false≢true}
 use mathlib.Core.List.{List, [], _∷_, _++_, map}
-use Prim.Native.Nat.{ℕ, zero, suc, _+_, _*_, max, _≤_, _<_}
+use Prim.Native.Nat.{ℕ, zero, suc, _+_, _*_, _^_, max, _≤_, _<_}
 use native.Mathlib.Omega.{arith}
 use native.Mathlib.Nat.{mul-le-mul-left, mul-le-mul-right, le-max-left, le-max-right}
-use lib.ListN.{length, length-map}
+use lib.ListN.{length, getD, length-map}
 use lib.Dec.{ltb, leb, eqb}
 use borrow.Author.Tests.{ltb-true, leb-true, eqb-true}
-use Rattle.model.specs.Lists.{All, sum, chain}
-use Rattle.model.specs.Sides.{Side, host, card, side-number, span-of, Layout, cell-count}
+use Rattle.model.specs.Lists.{All, chain}
+use Rattle.model.specs.Sides.{Side, host, card, side-number, span-of, Layout, cell-count, is-scratch}
 use Rattle.model.specs.Records.{Verb, read, write, copy, need, mark, kind, whole, Action}
 use Rattle.model.specs.Blocks.{Block, size, largest, Plan}
 use Rattle.model.specs.Judging.{Mode, R, W, RW, Declaration, Pass, DeclaredPlan}
@@ -18,13 +18,13 @@ use Rattle.model.proofs.Products.{largest-some}
 use Rattle.model.proofs.Numbering.{array-ends}
 use Rattle.reading.specs.declared.Fields.{Fields}
 use Rattle.sums.specs.Sums.{check-bytes}
-use Rattle.reading.specs.Bytes.{between}
-use Rattle.files.specs.Files.{u16-bytes, record-bytes, fields, action-fields, fields-of, Body, entry-bytes, front, file, plain-file}
+use Rattle.reading.specs.Bytes.{table, between}
+use Rattle.files.specs.Files.{u16-bytes, record-bytes, fields, action-fields, fields-of, Body, entry-bytes, array-entry, front, file, plain-file}
 use Rattle.files.specs.Inner.Short.{block-fields, block-fits, passes-size}
 use Rattle.files.specs.Bounds.{all-pass, arrays-fit, cells-fit, action-fits, nested-within, products-fit, plain-fits, pass-fits, declared-fits, call-fields, mode-kind, declaration-fields, pass-body, declared-file}
 use Rattle.files.specs.Claims.{Bytes}
-use Rattle.files.proofs.Files.Places.{body-size}
-use Rattle.files.proofs.Files.Accepting.{within-bounds}
+use Rattle.files.proofs.Files.Places.{body-size, ArraysTold, array-entries}
+use Rattle.files.proofs.Files.Accepting.{within-bounds, arrays-parts, arrays-told}
 use Rattle.files.proofs.Files.Records.{count-of, fields-count}
 use Rattle.files.proofs.Files.Declaring.{pass-count}
 
@@ -32,6 +32,11 @@ module _ {A : Type 0} (P : A → Type 0) where
   all-append : (l m : List A) → All P l → All P m → All P (l ++ m)
   all-append [] m h k = k
   all-append (x ∷ l) m h k = (h .0, all-append l m (h .1) k)
+
+  all-table : (g : ℕ → A) (n : ℕ) → ((i : ℕ) → P (g i)) → All P (table g n)
+  unfolding table
+  all-table g zero h = tt
+  all-table g (suc n) h = all-append (table g n) (g n ∷ []) (all-table g n h) (h n, tt)
 
 bytes-append : (l m : List ℕ) → Bytes l → Bytes m → Bytes (l ++ m)
 bytes-append = all-append (λ x. x < 256)
@@ -71,12 +76,21 @@ checks-small : (s : List ℕ) → Bytes (check-bytes s)
 unfolding check-bytes
 checks-small s = (omega arith, (omega arith, tt))
 
-file-bytes : (kind : ℕ) (layout : Layout) (bodies : List Body) → kind < 256 → length (layout .lengths) < 256 → length bodies < 256 → All (λ n. n < 65536) (layout .lengths) → All Told bodies → Bytes (file kind layout bodies)
+-- an array's entry, with the bit that marks scratch
+array-small : (layout : Layout) → ArraysTold layout → (a : ℕ) → array-entry layout a < 65536
+array-small layout told a = go (is-scratch layout a) (told .short a)
+  where
+    go : (b : Bool) → getD (layout .lengths) a 0 < 2 ^ 15 → getD (layout .lengths) a 0 + cond b (2 ^ 15) 0 < 65536
+    go true h = omega arith
+    go false h = omega arith
+
+file-bytes : (kind : ℕ) (layout : Layout) (bodies : List Body) → kind < 256 → length (layout .lengths) < 256 → length bodies < 256 → ArraysTold layout → All Told bodies → Bytes (file kind layout bodies)
 unfolding file
-file-bytes kind layout bodies k n m lengths told =
-    let lengths-fit = joined-bytes (λ x. x < 65536) u16-bytes u16-fits (layout .lengths) lengths in
+file-bytes kind layout bodies k n m arrays told =
+    let small = all-table (λ x. x < 65536) (array-entry layout) (length (layout .lengths)) (array-small layout arrays) in
+    let lengths-fit = joined-bytes (λ x. x < 65536) u16-bytes u16-fits (array-entries layout) small in
     let entries-fit = joined-bytes Told entry-bytes entry-fits bodies told in
-    let contents = bytes-append (chain u16-bytes (layout .lengths)) (chain entry-bytes bodies) lengths-fit entries-fit in
+    let contents = bytes-append (chain u16-bytes (array-entries layout)) (chain entry-bytes bodies) lengths-fit entries-fit in
     let bodies-fit = joined-bytes Told (λ b. chain record-bytes (b .records)) body-fits bodies told in
     let summed = front kind layout bodies ++ chain (λ (b : Body). chain record-bytes (b .records)) bodies in
     bytes-append summed (check-bytes summed)
@@ -102,10 +116,6 @@ mode-small RW = omega arith
 -- an array is no longer than all arrays together
 length-small : (layout : Layout) (a : ℕ) → span-of layout a .length ≤ cell-count layout
 length-small layout a = omega (arith, array-ends layout a)
-
-lengths-small : (l : List ℕ) → sum l ≤ 4096 → All (λ n. n < 65536) l
-lengths-small [] h = tt
-lengths-small (n ∷ l) h = (omega arith, lengths-small l (omega arith))
 
 small : (kind side array p q : ℕ) → kind < 256 → side < 256 → array < 256 → p < 65536 → q < 65536 → Small (fields kind side array p q)
 small kind side array p q h0 h1 h2 h3 h4 = record { kind = h0; side = h1; array = h2; step = omega arith; p = h3; q = h4 }
@@ -201,8 +211,8 @@ body0-small last l = small-of call-fields (between 1 last) (λ b e. let h = with
 
 arrays-small : (layout : Layout) → arrays-fit layout ≡ true → (length (layout .lengths) ≤ 32) × (cell-count layout ≤ 4096)
 arrays-small layout e =
-    let h = and-out (between 1 32 (length (layout .lengths))) (all-pass (between 1 4096) (layout .lengths) && leb (cell-count layout) 4096) e in
-    (within-bounds 1 32 (length (layout .lengths)) (h .0) .1, leb-true _ _ (and-out (all-pass (between 1 4096) (layout .lengths)) (leb (cell-count layout) 4096) (h .1) .1))
+    let h = arrays-parts layout e in
+    (within-bounds 1 32 (length (layout .lengths)) (h .some) .1, leb-true _ _ (h .total))
 
 pub plain-bytes : (plan : Plan) → plain-fits plan ≡ true → Bytes (plain-file plan)
 plain-bytes plan fits =
@@ -211,7 +221,7 @@ plain-bytes plan fits =
     let (products, few-records) = and-out (products-fit (plan .body)) _ h′ in
     let (few, total) = arrays-small (plan .layout) arrays-in in
     let sized : size (plan .body) ≤ 1024 = leb-true _ _ few-records in
-    file-bytes 2 (plan .layout) _ (omega arith) (omega arith) (omega arith) (lengths-small (plan .layout .lengths) total) (
+    file-bytes 2 (plan .layout) _ (omega arith) (omega arith) (omega arith) (arrays-told (plan .layout) arrays-in) (
       record {
         few-declarations = omega arith;
         few-records = omega (arith, fields-count (plan .body));
@@ -230,7 +240,7 @@ declared-bytes plan fits =
     let (few, total) = arrays-small (plan .layout) arrays-in in
     let last : length (plan .passes) ≤ 31 = leb-true _ _ few-passes in
     let sized : size (plan .body0) + passes-size (plan .passes) ≤ 1024 = leb-true _ _ few-records in
-    file-bytes 1 (plan .layout) _ (omega arith) (omega arith) (omega (arith, length-map (plan .passes) pass-body)) (lengths-small (plan .layout .lengths) total) (
+    file-bytes 1 (plan .layout) _ (omega arith) (omega arith) (omega (arith, length-map (plan .passes) pass-body)) (arrays-told (plan .layout) arrays-in) (
       record {
         few-declarations = omega arith;
         few-records = omega (arith, count-of call-fields (plan .body0));

@@ -22,8 +22,8 @@ use Rattle.files.specs.Files.{action-fields, fields-of, Body, plain-file
 use Rattle.files.specs.Inner.Short.{block-fields, block-fits, passes-size}
 use Rattle.files.specs.Bounds.{all-pass, arrays-fit, action-fits, nested-within, products-fit, plain-fits, pass-fits, declared-fits, numbered-passes, numbered-plan, numbered-declared, call-fields, pass-body, declared-file}
 use Rattle.files.proofs.Files.Holding.{Along, none, more, Holds, head-of, tail-of, down, table-is}
-use Rattle.files.proofs.Files.Places.{Placed, Laid, laid}
-use Rattle.files.proofs.Files.Accepting.{Passes, opens}
+use Rattle.files.proofs.Files.Places.{Placed, Laid, file-kind, whole-length, laid}
+use Rattle.files.proofs.Files.Accepting.{arrays-told, Passes, opens}
 use Rattle.files.proofs.Files.Records.{count-of, fields-count, action-fit, block-walks}
 use Rattle.files.proofs.Files.Reading.{block-reads, body0-reads}
 use Rattle.files.proofs.Files.Calling.{body0-walks}
@@ -37,57 +37,65 @@ module _ (plan : Plan) where
   abbrev plain : List ℕ
   plain = plain-file plan
 
-  plain-laid : Laid plain 2 (plan .layout) (plain-body ∷ [])
-  plain-laid = laid 2 (plan .layout) (plain-body ∷ [])
+  pub plain-is-plain : is-plain (plain-file plan) ≡ true
+  plain-is-plain = eq-eqb _ 2 (file-kind 2 (plan .layout) (plain-body ∷ []))
+
+  pub plain-length : length (plain-file plan) ≡ 4 + 2 * length (plan .layout .lengths) + 4 + 8 * size (plan .body) + 2
+  plain-length = omega (arith, whole-length 2 (plan .layout) (plain-body ∷ []), fields-count (plan .body))
+
+-- with arrays within the bounds
+module _ (plan : Plan) (arrays-in : arrays-fit (plan .layout) ≡ true) where
+  abbrev only-body : Body
+  only-body = plain-body plan
+
+  plain-laid : Laid (plain plan) 2 (plan .layout) (only-body ∷ [])
+  plain-laid = laid 2 (plan .layout) (only-body ∷ []) (arrays-told (plan .layout) arrays-in)
 
   pub plain-layout : layout-of (plain-file plan) ≡ plan .layout
   plain-layout = plain-laid .arrays-are
 
-  pub plain-is-plain : is-plain (plain-file plan) ≡ true
-  plain-is-plain = eq-eqb _ 2 (plain-laid .kind-is)
-
   -- all records are those of the one body
-  plain-count : record-count plain ≡ size (plan .body)
+  plain-count : record-count (plain plan) ≡ size (plan .body)
   plain-count = plain-laid .count-is ∙ omega (arith, fields-count (plan .body))
 
-  pub plain-length : length (plain-file plan) ≡ 4 + 2 * length (plan .layout .lengths) + 4 + 8 * size (plan .body) + 2
-  plain-length = omega (arith, plain-laid .long, plain-laid .bodies-start, plain-count)
-
-  plain-placed : Placed plain 0 plain-body
+  plain-placed : Placed (plain plan) 0 only-body
   plain-placed = head-of (plain-laid .placed)
 
-  plain-held : Holds (fields-at plain) 0 (block-fields (plan .body))
+  plain-held : Holds (fields-at (plain plan)) 0 (block-fields (plan .body))
   plain-held = rw (plain-laid .start-is) at (plain-placed .held)
 
   -- a test of actions that lets through only those whose fields fit this file
   module _ (fits : Action → Bool) (fit : (x : Action) → fits x ≡ true → fields-fit (plain-file plan) (action-fields x) ≡ true) where
-    plain-records : nested-within fits 16 (plan .body) ≡ true → largest (plan .body) ≤ 4096 → Passes (body-rows plain 0)
+    plain-records : nested-within fits 16 (plan .body) ≡ true → largest (plan .body) ≤ 4096 → Passes (body-rows (plain plan) 0)
     unfolding body-rows deepest allowed
     plain-records block-in product =
-        let end : first-record plain 1 ≡ 0 + size (plan .body) = rw (plain-laid .start-is, fields-count (plan .body)) at (plain-placed .next) in
-        let deep : deepest plain ≡ 15 = rw (plain-laid .kind-is) in
+        let end : first-record (plain plan) 1 ≡ 0 + size (plan .body) = rw (plain-laid .start-is, fields-count (plan .body)) at (plain-placed .next) in
+        let deep : deepest (plain plan) ≡ 15 = rw (plain-laid .kind-is) in
         rw (end, plain-laid .start-is)
-        (block-walks plain 0 0 (λ r x k e. rw (plain-laid .kind-is, e)) fits fit (plan .body) 16 0 1 0 block-in (omega arith) (omega arith) (rw one-mul product) (omega arith) plain-held (records-in plain 0))
+        (block-walks (plain plan) 0 0 (λ r x k e. rw (plain-laid .kind-is, e)) fits fit (plan .body) 16 0 1 0 block-in (omega arith) (omega arith) (rw one-mul product) (omega arith) plain-held (records-in (plain plan) 0))
 
-    pub plain-opens : arrays-fit (plan .layout) ≡ true → nested-within fits 16 (plan .body) ≡ true → largest (plan .body) ≤ 4096 → size (plan .body) ≤ 1024 →
+    pub plain-opens : nested-within fits 16 (plan .body) ≡ true → largest (plan .body) ≤ 4096 → size (plan .body) ≤ 1024 →
         (opening (plain-file plan) ≡ Accepted) × (plan-of (plain-file plan) ≡ numbered-plan plan)
     unfolding plan-of
-    plain-opens arrays-in block-in product few =
-        let read-back = rw zero-add at (block-reads (fields-at plain) (plan .body) (size (plan .body)) 0 (omega arith) plain-held) in (
-          opens plain 2 (plan .layout) (plain-body ∷ []) plain-laid refl arrays-in refl refl (omega (arith, fields-count (plan .body)))
+    plain-opens block-in product few =
+        let read-back = rw zero-add at (block-reads (fields-at (plain plan)) (plan .body) (size (plan .body)) 0 (omega arith) plain-held) in (
+          opens (plain plan) 2 (plan .layout) (only-body ∷ []) plain-laid refl arrays-in refl refl (omega (arith, fields-count (plan .body)))
               (more (record { declared = omega arith; none-first = refl }) none) (more (plain-records block-in product) none),
           rw (plain-count, plain-laid .arrays-are, read-back),
         )
 
-  pub plain-round-trip : plain-fits plan ≡ true → (opening (plain-file plan) ≡ Accepted) × (plan-of (plain-file plan) ≡ numbered-plan plan)
-  plain-round-trip fits =
-      let (arrays-in, h) = and-out (arrays-fit (plan .layout)) _ fits in
-      let (block-in, h′) = and-out (block-fits (plan .layout) 16 (plan .body)) _ h in
-      let (products-in, few-records) = and-out (products-fit (plan .body)) _ h′ in
-      plain-opens (action-fits (plan .layout)) (action-fit plain (plan .layout) (plain-laid .arrayed)) arrays-in block-in (leb-true _ _ products-in) (leb-true _ _ few-records)
+pub plain-round-trip : (plan : Plan) → plain-fits plan ≡ true → (opening (plain-file plan) ≡ Accepted) × (plan-of (plain-file plan) ≡ numbered-plan plan)
+plain-round-trip plan fits =
+    let (arrays-in, h) = and-out (arrays-fit (plan .layout)) _ fits in
+    let (block-in, h′) = and-out (block-fits (plan .layout) 16 (plan .body)) _ h in
+    let (products-in, few-records) = and-out (products-fit (plan .body)) _ h′ in
+    plain-opens plan arrays-in (action-fits (plan .layout)) (action-fit (plain plan) (plan .layout) (plain-laid plan arrays-in .arrayed)) block-in (leb-true _ _ products-in) (leb-true _ _ few-records)
 
--- a declared plan
-module _ (plan : DeclaredPlan) where
+pub declared-is-declared : (plan : DeclaredPlan) → is-declared (declared-file plan) ≡ true
+declared-is-declared plan = eq-eqb _ 1 (file-kind 1 (plan .layout) (record { declarations = 0; records = fields-of call-fields (plan .body0) } ∷ map pass-body (plan .passes)))
+
+-- a declared plan, its arrays within the bounds
+module _ (plan : DeclaredPlan) (arrays-in : arrays-fit (plan .layout) ≡ true) where
   abbrev first-body : Body
   first-body = record { declarations = 0; records = fields-of call-fields (plan .body0) }
 
@@ -98,10 +106,7 @@ module _ (plan : DeclaredPlan) where
   declared = declared-file plan
 
   declared-laid : Laid declared 1 (plan .layout) bodies
-  declared-laid = laid 1 (plan .layout) bodies
-
-  pub declared-is-declared : is-declared (declared-file plan) ≡ true
-  declared-is-declared = eq-eqb _ 1 (declared-laid .kind-is)
+  declared-laid = laid 1 (plan .layout) bodies (arrays-told (plan .layout) arrays-in)
 
   placed0 : Placed declared 0 first-body
   placed0 = head-of (declared-laid .placed)
@@ -133,10 +138,10 @@ module _ (plan : DeclaredPlan) where
       let start : first-record declared 1 ≡ r = rw zero-add at passes-start in
       rw count (table-is (λ b. pass-at declared (suc b)) (numbered-passes r (plan .passes)) (down (passes-read declared (plan .passes) 1 r start placed-passes)))
 
-  pub declared-round-trip : declared-fits plan ≡ true → (opening (declared-file plan) ≡ Accepted) × (declared-plan-of (declared-file plan) ≡ numbered-declared plan)
+  round-trip : declared-fits plan ≡ true → (opening (declared-file plan) ≡ Accepted) × (declared-plan-of (declared-file plan) ≡ numbered-declared plan)
   unfolding declared-plan-of
-  declared-round-trip fits =
-      let (arrays-in, h) = and-out (arrays-fit (plan .layout)) _ fits in
+  round-trip fits =
+      let (_, h) = and-out (arrays-fit (plan .layout)) _ fits in
       let (few-passes, h′) = and-out (leb (length (plan .passes)) 31) _ h in
       let (body0-in, h″) = and-out (nested-within (between 1 (length (plan .passes))) 8 (plan .body0)) _ h′ in
       let (products-in, h‴) = and-out (products-fit (plan .body0)) _ h″ in
@@ -152,3 +157,6 @@ module _ (plan : DeclaredPlan) where
             (passes-walk declared (plan .layout) (declared-laid .kind-is) (declared-laid .arrayed) (plan .passes) 1 refl passes-in placed-passes)),
         rw (records-are, declared-laid .arrays-are, read-back, passes-back),
       )
+
+pub declared-round-trip : (plan : DeclaredPlan) → declared-fits plan ≡ true → (opening (declared-file plan) ≡ Accepted) × (declared-plan-of (declared-file plan) ≡ numbered-declared plan)
+declared-round-trip plan fits = round-trip plan (and-out (arrays-fit (plan .layout)) _ fits .0) fits

@@ -42,9 +42,12 @@ abbrev pub all-pass : {A : Type 0} → (A → Bool) → List A → Bool
 all-pass g [] = true
 all-pass g (x ∷ l) = g x && all-pass g l
 
--- "arrays, 1 to 32", "per array its length .., 1 to 4,096, together at most 4,096"
+-- "arrays, 1 to 32", "per array its length .., 1 to 4,096, together at most 4,096", and each is scratch or not
 abbrev pub arrays-fit : Layout → Bool
-arrays-fit layout = between 1 32 (length (layout .lengths)) && (all-pass (between 1 4096) (layout .lengths) && leb (cell-count layout) 4096)
+arrays-fit layout =
+    between 1 32 (length (layout .lengths))
+    && (all-pass (between 1 4096) (layout .lengths)
+    && (leb (cell-count layout) 4096 && eqb (length (layout .scratch)) (length (layout .lengths))))
 
 -- a record's step, a byte, and its P and Q: "cells P to Q − 1 of the array, P < Q ≤ its length"; where it speaks of the whole array,
 -- "Unused fields are zero."

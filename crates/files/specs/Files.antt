@@ -1,12 +1,14 @@
--- From a plain plan back to the bytes of its file (document 01, 'The plan file').
-use Prim.Native.Nat.{ℕ, suc, _/_, _%_}
+-- From a plain plan back to the bytes of its file (document 01, 'The plan file'; document 02, requests a, c and f).
+use Prim.Native.Nat.{ℕ, suc, _+_, _/_, _%_, _^_}
+use mathlib.Core.Bool.{cond}
 use mathlib.Core.List.{List, [], _∷_, _++_}
-use lib.ListN.{length}
+use lib.ListN.{length, getD}
 use Rattle.model.specs.Lists.{chain}
-use Rattle.model.specs.Sides.{side-number, Layout}
+use Rattle.model.specs.Sides.{side-number, Layout, is-scratch}
 use Rattle.model.specs.Records.{kind, Action}
 use Rattle.model.specs.Blocks.{Block, size, Plan}
 use Rattle.reading.specs.declared.Fields.{Fields}
+use Rattle.reading.specs.Bytes.{table}
 use Rattle.sums.specs.Sums.{check-bytes}
 
 -- "Numbers of two bytes have the low byte first."
@@ -43,9 +45,15 @@ pub record Body : Type 0 where
 abbrev pub entry-bytes : Body → List ℕ
 entry-bytes b = u16-bytes (length (b .records)) ++ (b .declarations ∷ 0 ∷ [])
 
+-- an array's entry: "its length in two bytes", whose highest bit marks scratch
+abbrev pub array-entry : Layout → ℕ → ℕ
+array-entry layout a = getD (layout .lengths) a 0 + cond (is-scratch layout a) (2 ^ 15) 0
+
 -- header and contents
 abbrev pub front : ℕ → Layout → List Body → List ℕ
-front kind layout bodies = kind ∷ length (layout .lengths) ∷ length bodies ∷ 0 ∷ (chain u16-bytes (layout .lengths) ++ chain entry-bytes bodies)
+front kind layout bodies =
+    let arrays = length (layout .lengths) in
+    kind ∷ arrays ∷ length bodies ∷ 0 ∷ (chain u16-bytes (table (array-entry layout) arrays) ++ chain entry-bytes bodies)
 
 -- "Then the bodies, body 0 first, eight bytes a record. Last two check bytes"
 unfoldable pub file : ℕ → Layout → List Body → List ℕ

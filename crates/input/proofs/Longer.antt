@@ -3,7 +3,7 @@
 use mathlib.Core.Path.{_≡_, refl, sym, ap, _∙_}
 use mathlib.Core.Bool.{false, true, not, _&&_, _||_}
 use mathlib.Core.List.{List, [], _∷_, _++_, append-assoc}
-use Prim.Native.Nat.{ℕ, zero, suc, _+_, _*_, _≤_, _<_}
+use Prim.Native.Nat.{ℕ, zero, suc, _+_, _*_, _%_, _^_, _≤_, _<_}
 use native.Mathlib.Decide.{decLt}
 use native.Mathlib.Omega.{arith}
 use lib.Dec.{ltb, eqb}
@@ -88,7 +88,7 @@ module _ (f g : List ℕ) (lf : 8390 < length f) (lg : 8390 < length g) (near : 
   module _ (h : Header f) where
     lengths : (a : ℕ) → a < array-count f → length-at f a ≡ length-at g a
     unfolding length-at
-    lengths a l = pair (4 + 2 * a) (omega (arith, h .arrays))
+    lengths a l = ap (λ n. n % 2 ^ 15) (pair (4 + 2 * a) (omega (arith, h .arrays)))
 
     low : (b : ℕ) → b < body-count f → entry-at f b < 200
     unfolding entry-at

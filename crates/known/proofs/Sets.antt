@@ -11,6 +11,7 @@ use Rattle.model.specs.Inner.Holders.{array-of}
 use Rattle.model.specs.Sides.{Layout, cell-count}
 use Rattle.model.specs.Records.{stepped}
 use Rattle.model.proofs.Numbering.{stepped-bounds}
+use Rattle.memories.specs.Flags.{mask}
 use Rattle.memories.proofs.Masks.{none}
 use Rattle.known.specs.declared.Known.{Known}
 use Rattle.known.specs.Inner.Knowing.{at-start, Sound, Knows, Tells, Sure, Added, Dropped}
@@ -77,8 +78,9 @@ dropped-sound {layout} {a = a} {k = k} {from = from} {to = to} {copies = copies}
     go c z false v e false q = s .current c z e ∙ sym (kept c q)
 
 -- at the start
-pub start-known : (layout : Layout) (host card latest : List ℕ) → ((c : ℕ) → c < cell-count layout → getD host c 0 ≡ getD latest c 0) → Knows layout (at-start (length (layout .lengths))) host card latest
-start-known layout host card latest h = record {
-  on-host = record { these = λ a. true; masked = refl; current = λ c z e. h c z };
+pub start-known : (layout : Layout) (flags : ℕ) (these : ℕ → Bool) → flags ≡ mask (length (layout .lengths)) these → (host card latest : List ℕ) →
+    ((c : ℕ) → c < cell-count layout → these (array-of layout c) ≡ true → getD host c 0 ≡ getD latest c 0) → Knows layout (at-start flags) host card latest
+start-known layout flags these e host card latest h = record {
+  on-host = record { these = these; masked = e; current = h };
   on-card = record { these = λ a. false; masked = sym (none (length (layout .lengths))); current = λ c z e. absurd (true≢false (sym e)) };
 }

@@ -2,11 +2,10 @@
 ghost use mathlib.Core.Path.{_≡_};
 ghost use mathlib.Core.Bool.{true, _&&_};
 ghost use mathlib.Core.List.{List};
-ghost use Prim.Native.Nat.{ℕ, _≤_, _<_};
+ghost use Prim.Native.Nat.{ℕ, _<_};
 ghost use lib.Dec.{eqb};
 ghost use Rattle.memories.specs.Inner.Ranges.{AllCurrent, of-side};
 ghost use Rattle.known.specs.Inner.Knowing.{known-in, at-start, Sure, Added, Wrote, Copied};
-use memories::flags::all_flags;
 use memories::flags::flag_set;
 use memories::flags::with_flag;
 use memories::flags::without_flag;
@@ -18,13 +17,12 @@ pub struct Known {
     pub card: u64,
 }
 
-// At the start of a run: every array is current on the host.
-pub fn known_at_start(arrays: u8) -> Known
-    requires { ⌜ arrays ≤ 32 ⌝ }
-    ensures { λ k. ⌜ k ≡ at-start arrays ⌝ }
+// At the start of a run: the arrays that are flagged on the host are current there.
+pub fn known_at_start(flags: u64) -> Known
+    ensures { λ k. ⌜ k ≡ at-start flags ⌝ }
 {
     Known {
-        host: all_flags(arrays),
+        host: flags,
         card: 0,
     }
 }

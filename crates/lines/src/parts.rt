@@ -44,18 +44,29 @@ pub fn heading(page: &mut Page, o: Opened) -> usize {
     counted(page, at, 40, o.records)
 }
 
-// The line of an array, which has a cell at least, or of a body, with the numbers of its cells or records.
-const PARTS: [u8; 129] = *b"
+// The line of an array, which has a cell at least, or of a body, with the numbers of its cells or records; then of an array that is scratch.
+const PARTS: [u8; 199] = *b"
 01 array #: # cell, #|
 02 array #: # cells, # to #|
 10 body #: # records|
 11 body #: # record, #|
 12 body #: # records, # to #|
+21 array #: # cell, #, scratch|
+22 array #: # cells, # to #, scratch|
 ";
 
-pub const ARRAY: u8 = 0;
+const ARRAY: u8 = 0;
+
+const SCRATCH: u8 = 20;
 
 pub const BODY: u8 = 10;
+
+// An array as a part, by whether it is scratch.
+pub fn array_part(scratch: bool) -> u8
+    ensures { λ r. ⌜ r ≤ 40 ⌝ }
+{
+    if scratch { SCRATCH } else { ARRAY }
+}
 
 // The line of array or body i, which has the cells or records from `first` up to `end`.
 pub fn part_line(page: &mut Page, at: usize, part: u8, i: u16, first: u16, end: u16) -> usize

@@ -18,6 +18,7 @@ use Rattle.format.specs.Views.{body-view-answer, body-at, body-part, body-view}
 use Rattle.format.specs.Inner.Walks.{Walkable}
 use Rattle.model.proofs.Rows.{skipped, passed}
 use Rattle.reading.proofs.Tables.{next-cell, next-record, first-rises}
+use Rattle.contents.proofs.Bounds.{entry-inside}
 use Rattle.format.proofs.Views.{view-some}
 use Rattle.format.proofs.Walking.{steps, opened-facts, array-start, body-start}
 use Rattle.format.proofs.Acts.{arms}
@@ -79,6 +80,9 @@ module _ (f : List ℕ) (o : Opened) (a : Accepted ≡ opening f) (e : o ≡ fou
       let here = array-start f o e w k (omega arith) in
       let next = array-start f o e w (k + 1) (omega arith) in
       record { low = omega (arith, w .header .arrays); rises = omega arith }
+
+  pub array-inside : (k : ℕ) → k < o .arrays → 4 + 2 * k + 2 ≤ length f
+  array-inside k h = entry-inside f (opened-facts f a .bounds) k (rw (ap (λ x. x .arrays) e) at h)
 
   module _ (b : ℕ) (l : b < body-count f) where
     is-body : body-view f b ≡ body-bytes f b

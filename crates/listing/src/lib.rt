@@ -9,10 +9,11 @@ use block::block;
 use console::page::Page;
 use contents::Opened;
 use format::body_view;
-use lines::parts::ARRAY;
 use lines::parts::BODY;
+use lines::parts::array_part;
 use lines::parts::heading;
 use lines::parts::part_line;
+use reading::scratch_at;
 
 mod block;
 
@@ -25,7 +26,8 @@ fn arrays(page: &mut Page, at: usize, plan: &[u8], o: Opened) -> usize
     let mut waiting = at;
     let mut a: usize = 0;
     while a < arrays {
-        waiting = part_line(page, waiting, ARRAY, a as u16, starts[a], starts[a + 1]);
+        let part = array_part(scratch_at(plan, a));
+        waiting = part_line(page, waiting, part, a as u16, starts[a], starts[a + 1]);
         a += 1;
     }
     waiting

@@ -90,6 +90,43 @@ changed-less {from} {mid} {to} {new} {before} {between} {after} h g a b = record
       | no l ↦ b .cell k ∙ rw (le-ltb k mid (omega arith), and-false (leb from k)) (a .cell k ∙ rw (stepped-one mid to k, stepped-one from to k, le-leb mid k (omega arith), le-leb from k (omega arith)))
     ]
 
+-- and behind it, where each cell gets what `new` says of it
+pub changed-behind : {from mid to v : ℕ} {new : ℕ → ℕ} {before between after : List ℕ} → from ≤ mid → mid ≤ to → ((c : ℕ) → mid ≤ c → c < to → v ≡ new c) →
+    Changed 1 from mid new before between → Changed 1 mid to (λ c. v) between after → Changed 1 from to new before after
+changed-behind {from} {mid} {to} {v} {new} {before} {between} {after} h g e a b = record { size = b .size ∙ a .size; cell = cell }
+  where
+    cell : (k : ℕ) → getD after k 0 ≡ cond (stepped 1 from to k) (new k) (getD before k 0)
+    cell k = elim (decLt k mid) [
+      | yes l ↦ b .cell k ∙ rw (lt-leb mid k l) (a .cell k ∙ rw (stepped-one from mid k, stepped-one from to k, lt-ltb k mid l, lt-ltb k to (omega arith)))
+      | no l ↦ elim (decLt k to) [
+        | yes m ↦ b .cell k ∙ rw (each mid to k (omega arith) m, each from to k (omega arith) m) (e k (omega arith) m)
+        | no m ↦ b .cell k ∙ rw (le-ltb k to (omega arith), and-false (leb mid k), and-false (leb from k)) (a .cell k ∙ rw (le-ltb k mid (omega arith), and-false (leb from k)))
+      ]
+    ]
+
+-- cells that hold a number already have been changed to it
+pub changed-held : {from to v : ℕ} {memory : List ℕ} → ((c : ℕ) → from ≤ c → c < to → getD memory c 0 ≡ v) → Changed 1 from to (λ c. v) memory memory
+changed-held {from} {to} {v} {memory} h = record { size = refl; cell = cell }
+  where
+    cell : (c : ℕ) → getD memory c 0 ≡ cond (stepped 1 from to c) v (getD memory c 0)
+    cell c = elim (decLt c from) [
+      | yes l ↦ rw (lt-leb from c l)
+      | no l ↦ elim (decLt c to) [
+        | yes m ↦ rw (each from to c (omega arith) m) (h c (omega arith) m)
+        | no m ↦ rw (le-ltb c to (omega arith), and-false (leb from c))
+      ]
+    ]
+
+-- of two changes of the same cells the later stays
+pub changed-again : {k from to : ℕ} {new new′ : ℕ → ℕ} {before between after : List ℕ} →
+    Changed k from to new before between → Changed k from to new′ between after → Changed k from to new′ before after
+changed-again {k} {from} {to} {new} {new′} {before} {between} {after} a b = record { size = b .size ∙ a .size; cell = λ c. go c (stepped k from to c) (b .cell c) (a .cell c) }
+  where
+    go : (c : ℕ) (s : Bool) → getD after c 0 ≡ cond s (new′ c) (getD between c 0) → getD between c 0 ≡ cond s (new c) (getD before c 0) →
+        getD after c 0 ≡ cond s (new′ c) (getD before c 0)
+    go c true e f = e
+    go c false e f = e ∙ f
+
 -- four cells stored, the last first
 pub changed-four : (c : ℕ) (new : ℕ → ℕ) (l : List ℕ) → c + 4 ≤ length l → Changed 1 c (c + 4) new l (set (set (set (set l (c + 3) (new (c + 3))) (c + 2) (new (c + 2))) (c + 1) (new (c + 1))) c (new c))
 changed-four c new l h =

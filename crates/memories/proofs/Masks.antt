@@ -1,7 +1,7 @@
 -- Sets of flags as numbers: the bit operations on them, flag by flag, and how many are set.
 use mathlib.Core.Path.{_≡_, refl, _∙_}
 use mathlib.Core.Bool.{Bool, true, false, cond, not, _&&_, _||_, xor, and-false}
-use Prim.Native.Nat.{ℕ, zero, suc, _+_, _-_, _*_, _%_, _^_, _≤_, _<_}
+use Prim.Native.Nat.{ℕ, zero, suc, _+_, _*_, _%_, _^_, _≤_, _<_}
 use native.Nat.{ℕᴺ-discrete}
 use native.Mathlib.Decide.{decLt}
 use native.Mathlib.Nat.{pow-suc}
@@ -43,16 +43,11 @@ pub set-or : (b f : Bool) → cond b true f ≡ (b || f)
 set-or true f = refl
 set-or false f = refl
 
--- no flag, and all flags
+-- no flag
 pub none : (n : ℕ) → mask n (λ a. false) ≡ 0
 unfolding mask
 none zero = refl
 none (suc n) = omega (arith, none n)
-
-pub all-set : (n : ℕ) → mask n (λ a. true) ≡ 2 ^ n - 1
-unfolding mask
-all-set zero = refl
-all-set (suc n) = omega (arith, all-set n, pow-suc 2 n, pow-pos n)
 
 -- one flag
 one : (n a : ℕ) → a < n → 2 ^ a ≡ mask n (λ b. eqb b a)

@@ -2,7 +2,7 @@
 // they are a mask of 32 bits.
 ghost use mathlib.Core.Path.{_≡_};
 ghost use mathlib.Core.Bool.{Bool, true, false, cond};
-ghost use Prim.Native.Nat.{ℕ, _≤_, _<_};
+ghost use Prim.Native.Nat.{ℕ, _<_};
 ghost use lib.Dec.{eqb};
 ghost use Rattle.model.specs.Lists.{how-many};
 ghost use Rattle.memories.specs.Flags.{mask};
@@ -29,14 +29,6 @@ pub fn without_flag(flags: u64, array: u8) -> u64
     ensures { λ r. ⌜ ((n : ℕ) (flag : ℕ → Bool) → array < n → flags ≡ mask n flag → r ≡ mask n (λ a. cond (eqb a array) false (flag a))) ⌝ }
 {
     flags ^ (flags & (1u64 << array))
-}
-
-// The flags of so many arrays, all set.
-pub fn all_flags(arrays: u8) -> u64
-    requires { ⌜ arrays ≤ 32 ⌝ }
-    ensures { λ r. ⌜ r ≡ mask arrays (λ a. true) ⌝ }
-{
-    (1u64 << arrays) - 1
 }
 
 // How many flags of a mask are set.

@@ -10,7 +10,7 @@ use Rattle.model.specs.Records.{write, covers}
 use Rattle.model.specs.Blocks.{done, fixed, _⨾_}
 use Rattle.model.specs.Runs.{here, onward}
 use Rattle.model.specs.Judging.{at-end, passing, leaving, itself, always-writes}
-use Rattle.model.specs.Cases.{Case, every, _on_, twelve, AllAnswer, StopsFirstAt2, nearly, fixed-counts, single, MetInside, steps, MetTogether}
+use Rattle.model.specs.Cases.{Case, every, _on_, twelve, AllAnswer, StopsFirstAt2, nearly, fixed-counts, single, MetInside, steps, MetTogether, unfilled}
 use Rattle.model.specs.Claims.{ClaimCases}
 use Rattle.model.specs.Inner.Holders.{holder}
 use Rattle.model.proofs.Numbering.{span-within}
@@ -63,4 +63,4 @@ met-together = (
 
 pub cases : ClaimCases
 unfolding has has-all unmet lower equal covers sum-before holder
-cases = (all-answer twelve refl refl, stops-first, all-answer nearly refl refl, all-answer fixed-counts refl refl, met-inside, all-answer steps refl refl, met-together)
+cases = (all-answer twelve refl refl, stops-first, all-answer nearly refl refl, all-answer fixed-counts refl refl, met-inside, all-answer steps refl refl, met-together, all-answer unfilled refl refl)

@@ -5,6 +5,7 @@ pub mod Numbers
 pub mod Declarations
 pub mod Stages
 pub mod Coherence
+pub mod Intervals
 pub mod Moves
 pub mod Following
 pub mod Adding

@@ -2,36 +2,37 @@
 use Prim.Native.Nat.{ℕ, _<_}
 use mathlib.Core.Path.{_≡_, refl, ap, sym, _∙_}
 use mathlib.Core.List.{List, [], _∷_, _++_, map, reverse, reverseAux as onto}
+use mathlib.Core.Logic.{inl, inr}
 use mathlib.Core.Option.{Option, none, some}
-use mathlib.Core.Bool.{Bool, true, false, cond, false≢true}
+use mathlib.Core.Bool.{Bool, true, false, cond, true≢false}
 use native.Mathlib.Omega.{arith}
-use borrow.Author.Tests.{eqb-true}
 use Rattle.model.specs.Lists.{keep, chain}
+use Rattle.model.specs.declared.Verdict.the-variants.{Accepted}
 use Rattle.model.specs.declared.Tally.{Tally}
-use Rattle.model.specs.Sides.{Side, host, Stamp, never, at, equals, cell-count, Layout}
+use Rattle.model.specs.Sides.{Side, host, at, equals, cell-count, Layout, has-scratch, scratch-cell}
 use Rattle.model.specs.Records.{read, whole, Action, covers, cover-count}
 use Rattle.model.specs.Effects.{counted, met}
 use Rattle.model.specs.Blocks.{Block, act}
-use Rattle.model.specs.Runs.{Event, Config, stopped, lowest-unmet, stop-or, step, Run, Ends, carried-on, proper, tally}
+use Rattle.model.specs.Runs.{Event, Config, stopped, next, lowest-unmet, stop-or, step, Run, Ends, carried-on, proper, tally}
+use Rattle.model.specs.Check.{Answers}
 use Rattle.model.specs.Judging.{Pass, DeclaredPlan, Accepts}
 use Rattle.model.specs.Expanding.{expansion}
 use Rattle.model.specs.Demand.{latest-write, Called, ExactMoves}
-use Rattle.model.specs.Claims.{Claim3, ClaimMoved}
+use Rattle.model.specs.Claims.{Claim3, ClaimFilled, ClaimMoved}
+use Rattle.model.specs.Inner.Holders.{array-of}
+use Rattle.model.proofs.Numbering.{scratch-own, none-scratch}
 use Rattle.model.proofs.Runs.{config, carried}
 use Rattle.model.proofs.Stamps.{tracked}
+use Rattle.model.proofs.Current.{equal-stamp, current-or-unwritten}
+use Rattle.model.proofs.Stuck.{accepted-iff}
 use Rattle.model.proofs.Unmet.{all-met}
 use Rattle.model.proofs.Demand.Walks.{way-same, called-same}
 use Rattle.model.proofs.Demand.Stages.{Did, executed, all-onto, whole-events, walked, declares-all, executed-so-far}
-use Rattle.model.proofs.Demand.Coherence.{coherent}
-use Rattle.model.proofs.Demand.Moves.{once-from-start, once-from-write}
-use Rattle.model.proofs.Demand.Following.{Finished, follows, at-end}
+use Rattle.model.proofs.Demand.Moves.{once-from-start, none-before-mark, once-from-write}
+use Rattle.model.proofs.Demand.Following.{Finished, at-end}
 use Rattle.model.proofs.Demand.Adding.{moved-onto, moved-whole}
 use Rattle.model.proofs.Demand.Numbers.{unnumbered-event, unnumbered-events}
-use Rattle.model.proofs.Demand.Telling.{tell, told-declarations, told-gave, told-once, told-after}
-
-equal-stamp : (x : Stamp) (k : ℕ) → equals x k ≡ true → x ≡ at k
-equal-stamp never k e = absurd (false≢true e)
-equal-stamp (at j) k e = ap at (eqb-true j k e)
+use Rattle.model.proofs.Demand.Telling.{tell, told-declarations, told-gave, told-moves, told-once, told-after}
 
 -- lists that were kept the last one first, in order
 onto-onto : {A : Type 0} (x y z : List A) → onto (onto x y) z ≡ onto y (x ++ z)
@@ -72,28 +73,45 @@ moved-unnumbered : (layout : Layout) (l : List Event) → tally layout (unnumber
 moved-unnumbered layout l = ap (λ (t : Tally). t .moved) (tally-unnumbered layout l)
 
 module _ (plan : DeclaredPlan) (cs : List Bool) (ok : Accepts plan) where
-  unstuck : (k : Config) (r c : ℕ) → Ends (expansion plan) cs k (stopped r c) → ⊥
-  unstuck k r c e = at-end plan cs ok e
-
-  met-now : {k : Config} → Run proper (expansion plan) cs k → (r : ℕ) (x : Action) (b : Block Action) → k .left ≡ act r x b →
-      lowest-unmet (plan .layout) x (k .state) ≡ none
-  met-now {k} h r x b e = go (lowest-unmet (plan .layout) x (k .state)) refl
+  -- without scratch by the stages, with it by the check
+  unstuck : (has-scratch (plan .layout) ≡ true → Answers (expansion plan) Accepted) → (k : Config) (r c : ℕ) → Ends (expansion plan) cs k (stopped r c) → ⊥
+  unstuck passes k r c e = go (has-scratch (plan .layout)) refl
     where
-      at-record : step proper (plan .layout) k ≡ stop-or r (lowest-unmet (plan .layout) x (k .state)) (step carried-on (plan .layout) (config (act r x b) (k .choices) (k .state) (k .history)))
-      at-record = ap (λ l. step proper (plan .layout) (config l (k .choices) (k .state) (k .history))) e
+      go : (b : Bool) → has-scratch (plan .layout) ≡ b → ⊥
+      go true q = accepted-iff (expansion plan) .0 (passes q) cs k r c e
+      go false q = at-end plan cs ok e q
 
+  -- the step at a record
+  at-record : (k : Config) (r : ℕ) (x : Action) (b : Block Action) → k .left ≡ act r x b →
+      step proper (plan .layout) k ≡ stop-or r (lowest-unmet (plan .layout) x (k .state)) (step carried-on (plan .layout) (config (act r x b) (k .choices) (k .state) (k .history)))
+  at-record k r x b e = ap (λ l. step proper (plan .layout) (config l (k .choices) (k .state) (k .history))) e
+
+  -- a record that is executed is met
+  met-now : (k k′ : Config) → step proper (plan .layout) k ≡ next k′ → (r : ℕ) (x : Action) (b : Block Action) → k .left ≡ act r x b →
+      lowest-unmet (plan .layout) x (k .state) ≡ none
+  met-now k k′ n r x b e = go (lowest-unmet (plan .layout) x (k .state)) refl
+    where
       go : (o : Option ℕ) → lowest-unmet (plan .layout) x (k .state) ≡ o → lowest-unmet (plan .layout) x (k .state) ≡ none
       go none u = u
-      go (some c) u = absurd (unstuck k r c (record { run = h; last = rw u at at-record }))
+      go (some c) u = let q = rw u at (at-record k r x b e) in let z : _≡_ {A = ℕ} 0 1 = cc in absurd (omega arith)
+
+  -- without scratch every record is executed
+  goes-on : has-scratch (plan .layout) ≡ false → (k : Config) → Run proper (expansion plan) cs k → (r : ℕ) (x : Action) (b : Block Action) → k .left ≡ act r x b →
+      (k′ : Config) × (step proper (plan .layout) k ≡ next k′)
+  goes-on filled k h r x b e = go (lowest-unmet (plan .layout) x (k .state)) refl
+    where
+      go : (o : Option ℕ) → lowest-unmet (plan .layout) x (k .state) ≡ o → (k′ : Config) × (step proper (plan .layout) k ≡ next k′)
+      go none u = (_, rw u at (at-record k r x b e))
+      go (some c) u = absurd (at-end plan cs ok {k = k} {e = stopped r c} (record { run = h; last = rw u at (at-record k r x b e) }) filled)
 
   latest : {k : Config} → Run proper (expansion plan) cs k → (s : Side) (c : ℕ) → k .state .cell c .held s ≡ at (k .state .cell c .latest) →
       k .state .cell c .held s ≡ at (latest-write (plan .layout) (k .history) c)
   latest h s c e = e ∙ ap at (tracked (expansion plan) (carried (expansion plan) h) .latest c)
 
-  reads : (k : Config) → Run proper (expansion plan) cs k → (r : ℕ) (x : Action) (b : Block Action) → k .left ≡ act r x b → x .verb ≡ read →
+  reads : (k k′ : Config) → Run proper (expansion plan) cs k → step proper (plan .layout) k ≡ next k′ → (r : ℕ) (x : Action) (b : Block Action) → k .left ≡ act r x b → x .verb ≡ read →
       (c : ℕ) → c < cell-count (plan .layout) → covers (plan .layout) x c ≡ true → k .state .cell c .held (x .side) ≡ at (latest-write (plan .layout) (k .history) c)
-  reads k h r x b e v c i w =
-      let m = all-met (plan .layout) x (k .state) (met-now h r x b e) c i in
+  reads k k′ h n r x b e v c i w =
+      let m = all-met (plan .layout) x (k .state) (met-now k k′ n r x b e) c i in
       latest h (x .side) c (equal-stamp (k .state .cell c .held (x .side)) (k .state .cell c .latest) (read-needs x v w m))
     where
       read-needs : (x : Action) → x .verb ≡ read → covers (plan .layout) x c ≡ true → met (plan .layout) x (k .state) c ≡ true →
@@ -101,8 +119,12 @@ module _ (plan : DeclaredPlan) (cs : List Bool) (ok : Accepts plan) where
       read-needs x v w m = rw (w, v) at m
 
   current : (k : Config) → Run proper (expansion plan) cs k → (c : ℕ) → c < cell-count (plan .layout) →
+      (scratch-cell (plan .layout) c ≡ true → latest-write (plan .layout) (k .history) c ≡ 0 → ⊥) →
       (s : Side) × (k .state .cell c .held s ≡ at (latest-write (plan .layout) (k .history) c))
-  current k h c i = let s = coherent plan cs ok c i (follows plan cs ok h .stages) .current in (s .0, latest h (s .0) c (s .1))
+  current k h c i written = elim (current-or-unwritten (expansion plan) c i h) [
+    | inl s ↦ (s .0, latest h (s .0) c (s .1))
+    | inr (q, e) ↦ absurd (written q (sym (tracked (expansion plan) (carried (expansion plan) h) .latest c) ∙ e))
+  ]
 
   -- the needs and marks of the run, in order, without their numbers
   in-order : (k : Config) (f : Finished plan cs (k .choices) (unnumbered-events (k .history))) →
@@ -125,7 +147,8 @@ module _ (plan : DeclaredPlan) (cs : List Bool) (ok : Accepts plan) where
             ∙ (map-onto (λ (d : Did). d .declaration) (f .made) [] ∙ (ap (λ l. onto l []) (declares-all plan cs (f .stages)) ∙ sym (chain-onto (λ (p : Pass). p .declarations) (f .called) [])));
         gave = told-gave did (told .made) (told .alike);
         in-order = told .all;
-        from-start = λ a. told-once a host did (told .made) (told .alike) (once-from-start a plan cs ok (f .stages));
+        from-start = λ a e. told-once a host did (told .made) (told .alike) (once-from-start a plan cs ok (f .stages) e);
+        before-mark = λ a c e i t. told-moves a t did (told .made) (told .alike) ∙ none-before-mark a plan cs ok (f .stages) c e i t;
         from-write = λ a before after d e w. told-after a did (told .made) before after d (told .alike) e w (once-from-write a plan cs ok (f .stages));
       }
 
@@ -136,6 +159,15 @@ demand3 plan ok cs = record {
   always-current = current plan cs ok;
   moves-exactly = λ k e. moved plan cs ok (at-end plan cs ok e);
 }
+
+pub filled : ClaimFilled
+filled plan ok e cs =
+    let d = demand3 plan ok cs in (
+      d .never-stuck (λ s. absurd (true≢false (sym s ∙ e))),
+      (λ k h r x b q v. let n = goes-on plan cs ok e k h r x b q in d .reads-latest k (n .0) h (n .1) r x b q v),
+      (λ k h c i. d .always-current k h c i (λ s z. true≢false (sym s ∙ (scratch-own (plan .layout) c i ∙ none-scratch (plan .layout) e (array-of (plan .layout) c))))),
+      (λ k h. (d .moves-exactly k h, λ a. d .moves-exactly k h .from-start a (none-scratch (plan .layout) e a))),
+    )
 
 pub moves-add : ClaimMoved
 moves-add plan ok cs k e =

@@ -1,16 +1,17 @@
 -- Demand 3 is not empty: a plan that the judge accepts, a W on the card and then an RW on the host of an array of two cells,
--- whose run finishes and moves the array once, in the interval that the RW closes.
+-- whose run finishes and moves the array once, in the interval that the RW closes. And of scratch an RW first, which the judge accepts and a
+-- run does not (document 02, request f).
 use Prim.Native.Nat.{ℕ, zero, suc, _<_}
 use mathlib.Core.Path.{_≡_, refl}
 use mathlib.Core.List.{[], _∷_, _++_, reverse}
-use mathlib.Core.Bool.{true, true≢false}
+use mathlib.Core.Bool.{Bool, true, false, true≢false}
 use native.Mathlib.Omega.{arith}
 use Rattle.model.specs.Lists.{sum-before}
-use Rattle.model.specs.Sides.{Side, host, card}
+use Rattle.model.specs.Sides.{Side, host, card, Layout}
 use Rattle.model.specs.Records.{Verb, read, write, need, mark, Action, whole-of, covers}
 use Rattle.model.specs.Effects.{Deed, nothing, gets, puts, moves}
 use Rattle.model.specs.Blocks.{Block, act}
-use Rattle.model.specs.Runs.{Event, Config, Step, next, ends, finished, step, begin, here, onward, Ends, proper}
+use Rattle.model.specs.Runs.{Event, Config, Step, next, ends, finished, stopped, step, begin, here, onward, Ends, proper}
 use Rattle.model.specs.Judging.{W, RW, Pass, DeclaredPlan, Rules, Accepts}
 use Rattle.model.specs.Expanding.{expansion}
 use Rattle.model.specs.Demand.{Made, moves-to, interval, ExactMoves}
@@ -28,23 +29,27 @@ fill = record { declarations = record { mode = W; side = card; array = 0 } ∷ [
 abbrev amend : Pass
 amend = record { declarations = record { mode = RW; side = host; array = 0 } ∷ []; body = act 0 (of-both read host) (act 0 (of-both write host) Block.done) }
 
+-- an array of two cells that is scratch or not
+abbrev array : Bool → Layout
+array scratch = record { lengths = 2 ∷ []; scratch = scratch ∷ [] }
+
 abbrev plan : DeclaredPlan
-plan = record { layout = record { lengths = 2 ∷ [] }; body0 = act 0 1 (act 0 2 Block.done); passes = fill ∷ (amend ∷ []) }
+plan = record { layout = array false; body0 = act 0 1 (act 0 2 Block.done); passes = fill ∷ (amend ∷ []) }
 
-both : (c : ℕ) → c < 2 → covers (plan .layout) (of-both write card) c ≡ true
+both : (b : Bool) (c : ℕ) → c < 2 → covers (array b) (of-both write card) c ≡ true
 unfolding covers sum-before
-both zero h = refl
-both (suc zero) h = refl
-both (suc (suc c)) h = absurd (omega arith)
+both b zero h = refl
+both b (suc zero) h = refl
+both b (suc (suc c)) h = absurd (omega arith)
 
-fill-rules : Rules (plan .layout) fill
-fill-rules = record { once = refl; permitted = refl; written = (λ m c i. always-written (plan .layout) card c (fill .body) .0 (rw (both c (span-within (plan .layout) 0 c i))), tt) }
+fill-rules : (b : Bool) → Rules (array b) fill
+fill-rules b = record { once = refl; permitted = refl; written = (λ m c i. always-written (array b) card c (fill .body) .0 (rw (both b c (span-within (array b) 0 c i))), tt) }
 
-amend-rules : Rules (plan .layout) amend
-amend-rules = record { once = refl; permitted = refl; written = (λ m. absurd (true≢false (cc)), tt) }
+amend-rules : (b : Bool) → Rules (array b) amend
+amend-rules b = record { once = refl; permitted = refl; written = (λ m. absurd (true≢false (cc)), tt) }
 
 pub accepted : Accepts plan
-accepted = (fill-rules, (amend-rules, tt))
+accepted = (fill-rules false, (amend-rules false, tt))
 
 -- the configuration after one more step
 abbrev after : Config → Config
@@ -84,3 +89,14 @@ one-move = (refl, refl, refl)
 
 pub moved : ExactMoves plan [] last
 moved = demand3 plan accepted [] .moves-exactly last ends-finished
+
+-- the RW alone, of scratch: the judge accepts it, and its need is stuck
+abbrev unfilled : DeclaredPlan
+unfilled = record { layout = array true; body0 = act 0 2 Block.done; passes = fill ∷ (amend ∷ []) }
+
+pub unfilled-accepted : Accepts unfilled
+unfilled-accepted = (fill-rules true, (amend-rules true, tt))
+
+pub unfilled-stuck : Ends (expansion unfilled) [] (begin (expansion unfilled) []) (stopped 0 0)
+unfolding covers sum-before
+unfilled-stuck = record { run = here; last = refl }

@@ -6,6 +6,7 @@ pub mod Unmet
 pub mod Needs
 pub mod Stamps
 pub mod Endings
+pub mod Current
 pub mod Numbering
 pub mod Products
 -- the check is exact

@@ -3,21 +3,41 @@
 use Prim.Native.Nat.{ℕ, zero, suc, _+_, _-_, _*_, _/_, _%_, _≤_, _<_, min}
 use mathlib.Core.Path.{_≡_, refl, sym, ap, _∙_}
 use mathlib.Core.List.{List, [], _∷_}
-use mathlib.Core.Bool.{Bool, true, false, cond, _&&_, and-true, and-false}
+use mathlib.Core.Bool.{Bool, true, false, cond, _&&_, and-true, and-false, false≢true}
+use mathlib.Core.Logic.{inl, inr}
 use native.Mathlib.Nat.{add-sub-cancel-left, suc-mul, zero-mod, mod-one, mod-lt, mod-eq-of-lt, mod-eq-sub-mod, mul-mod-left, div-add-mod', div-eq-of-lt, add-div-right}
 use native.Mathlib.Decide.{decLt}
 use native.Mathlib.Numerals.{add-one}
 use native.Mathlib.Omega.{arith}
 use lib.Arith.{digits-div}
-use lib.ListN.{getD}
+use lib.ListN.{length, getD}
 use lib.Dec.{leb, ltb, eqb}
 use borrow.Author.Tests.{ltb-true, ltb-false, lt-ltb, le-ltb, leb-true, leb-false, le-leb, lt-leb, eqb-true, eqb-false, eq-eqb, ne-eqb}
-use Rattle.model.specs.Lists.{sum, sum-before, how-many}
-use Rattle.model.specs.Sides.{Layout, cell-count, span-of, in-span}
+use Rattle.model.specs.Lists.{any, sum, sum-before, some-below, how-many}
+use Rattle.model.specs.Sides.{Layout, cell-count, span-of, in-span, is-scratch, has-scratch, scratch-cell}
 use Rattle.model.specs.Records.{whole, Action, distance, stepped, covers, cover-count}
 use Rattle.model.specs.Claims.{ClaimCells, ClaimCovers}
 use Rattle.model.specs.Inner.Holders.{holder, array-of}
-use Rattle.model.proofs.Booleans.{and-out, and-in}
+use Rattle.model.proofs.Booleans.{or-out, or-left, or-right, or-none, and-out, and-in}
+
+-- one of the numbers below n passes the test
+module _ (f : ℕ → Bool) where
+  pub some-in : (n k : ℕ) → k < n → f k ≡ true → some-below f n ≡ true
+  some-in zero k h e = absurd (omega arith)
+  some-in (suc n) k h e = elim (decLt k n) [
+    | yes l ↦ or-right (f n) (some-below f n) (some-in n k l e)
+    | no l ↦ let q : k ≡ n = omega arith in or-left (f n) (some-below f n) (rw q at e)
+  ]
+
+  pub some-out : (n : ℕ) → some-below f n ≡ true → (k : ℕ) × (k < n) × (f k ≡ true)
+  some-out zero e = absurd (false≢true e)
+  some-out (suc n) e = elim (or-out (f n) (some-below f n) e) [ inl q ↦ (n, omega arith, q) | inr q ↦ let (k, h, p) = some-out n q in (k, omega arith, p) ]
+
+-- where none of a list holds, none of its places does
+none-of : (l : List Bool) (n : ℕ) → any (λ b. b) l ≡ false → getD l n false ≡ false
+none-of [] n e = refl
+none-of (b ∷ l) zero e = or-none b _ e .0
+none-of (b ∷ l) (suc n) e = none-of l n (or-none b _ e .1)
 
 -- a place is held where its holder's lengths begin and end
 in-holder : (l : List ℕ) (c : ℕ) → c < sum l → (sum-before l (holder l c) ≤ c) × (c < sum-before l (holder l c) + getD l (holder l c) 0)
@@ -46,6 +66,15 @@ holder-from (n ∷ l) (suc a) c h k = go (ltb c n) refl (holder-from l a (c - n)
     go : (b : Bool) → ltb c n ≡ b → (sum-before l a ≤ c - n → c - n < sum-before l a + getD l a 0 → holder l (c - n) ≡ a) → cond b 0 (suc (holder l (c - n))) ≡ suc a
     go true e ih = let m = ltb-true c n e in absurd (omega arith)
     go false e ih = let m = ltb-false c n e in ap suc (ih (omega arith) (omega arith))
+
+holder-below : (l : List ℕ) (c : ℕ) → c < sum l → holder l c < length l
+unfolding holder
+holder-below [] c h = absurd (omega arith)
+holder-below (n ∷ l) c h = go (ltb c n) refl (holder-below l (c - n))
+  where
+    go : (b : Bool) → ltb c n ≡ b → (c - n < sum l → holder l (c - n) < length l) → cond b 0 (suc (holder l (c - n))) < suc (length l)
+    go true e ih = omega arith
+    go false e ih = let k = ltb-false c n e in let i = ih (omega arith) in omega arith
 
 -- what stands before a place, and at it, is part of the sum
 pub ends-within : (l : List ℕ) (a : ℕ) → sum-before l a + getD l a 0 ≤ sum l
@@ -170,6 +199,22 @@ module _ (layout : Layout) where
       go true y e f = sym (eq-eqb _ _ (span-own a c e)) ∙ f
       go false false e f = refl
       go false true e f = sym e ∙ (rw (eqb-true (array-of layout c) a f) at (own-span c h))
+
+  -- a cell is scratch if its array is
+  pub scratch-own : (c : ℕ) → c < cell-count layout → scratch-cell layout c ≡ is-scratch layout (array-of layout c)
+  scratch-own c h = go (scratch-cell layout c) (is-scratch layout (array-of layout c)) refl refl
+    where
+      go : (x y : Bool) → scratch-cell layout c ≡ x → is-scratch layout (array-of layout c) ≡ y → x ≡ y
+      go true y e f =
+          let (n, l, q) = some-out _ (length (layout .lengths)) e in
+          let p = and-out (is-scratch layout n) (in-span (span-of layout n) c) q in
+          sym (p .0) ∙ (ap (is-scratch layout) (sym (span-own n c (p .1))) ∙ f)
+      go false true e f =
+          sym e ∙ some-in _ (length (layout .lengths)) (array-of layout c) (holder-below (layout .lengths) c h) (and-in (is-scratch layout (array-of layout c)) _ f (own-span c h))
+      go false false e f = refl
+
+  pub none-scratch : has-scratch layout ≡ false → (n : ℕ) → is-scratch layout n ≡ false
+  none-scratch e n = none-of (layout .scratch) n e
 
   -- the cells of a record are of its array
   pub covers-array : (x : Action) (c : ℕ) → covers layout x c ≡ true → array-of layout c ≡ x .name

@@ -8,7 +8,7 @@ use Rattle.model.specs.Sides.{Layout}
 use Rattle.model.specs.Records.{Action}
 use Rattle.model.specs.Effects.{State, start, effect}
 use Rattle.model.specs.Blocks.{Block, done, act, branch, loop, fixed, _then_, Plan}
-use Rattle.model.specs.Runs.{Event, Config, Manner, next, stop-or, lowest-unmet, step, here, onward, Run, carried-on, proper}
+use Rattle.model.specs.Runs.{Event, Config, Manner, next, stops-in, stop-or, lowest-unmet, step, here, onward, Run, carried-on, proper}
 use Rattle.model.specs.Claims.{ClaimCarried}
 pub use Rattle.model.specs.Inner.Events.{config, after-turn, event}
 
@@ -40,18 +40,22 @@ carried plan (onward {k = k} {k′} h e) = onward (carried plan h) (next-carry (
 pub proper-carried : ClaimCarried
 proper-carried plan cs k = carried plan
 
--- what holds at the start and is kept by every executed record
-module _ (plan : Plan) (P : State → List Event → Type 0) (first : P (start (plan .layout)) [])
-    (keeps : (r : ℕ) (x : Action) (σ : State) (l : List Event) → P σ l → P (effect (plan .layout) x σ) (event r x σ ∷ l)) where
-  kept-on : (b : Block Action) (cs : List Bool) (σ : State) (l : List Event) (k : Config) → step carried-on (plan .layout) (config b cs σ l) ≡ next k → P σ l → P (k .state) (k .history)
+-- what holds at the start and is kept by every record at which the run does not stop
+module _ (manner : Manner) (plan : Plan) (P : State → List Event → Type 0) (first : P (start (plan .layout)) [])
+    (keeps : (r : ℕ) (x : Action) (σ : State) (l : List Event) → stops-in manner (plan .layout) x σ ≡ none → P σ l → P (effect (plan .layout) x σ) (event r x σ ∷ l)) where
+  kept-on : (b : Block Action) (cs : List Bool) (σ : State) (l : List Event) (k : Config) → step manner (plan .layout) (config b cs σ l) ≡ next k → P σ l → P (k .state) (k .history)
   kept-on done cs σ l k e p = absurd (true≢false (cc))
-  kept-on (act r x b) cs σ l k e p = subst (λ (m : Config). P (m .state) (m .history)) (next-same _ k e) (keeps r x σ l p)
+  kept-on (act r x b) cs σ l k e p = go (stops-in manner (plan .layout) x σ) refl e
+    where
+      go : (o : Option ℕ) → stops-in manner (plan .layout) x σ ≡ o → stop-or r o (step carried-on (plan .layout) (config (act r x b) cs σ l)) ≡ next k → P (k .state) (k .history)
+      go none u f = subst (λ (m : Config). P (m .state) (m .history)) (next-same _ k f) (keeps r x σ l u p)
+      go (some c) u f = absurd (true≢false (cc))
   kept-on (branch r x y b) [] σ l k e p = absurd (true≢false (cc))
   kept-on (branch r x y b) (c ∷ cs) σ l k e p = subst (λ (m : Config). P (m .state) (m .history)) (next-same _ k e) p
   kept-on (loop r x b) [] σ l k e p = absurd (true≢false (cc))
   kept-on (loop r x b) (c ∷ cs) σ l k e p = subst (λ (m : Config). P (m .state) (m .history)) (next-same _ k e) p
-  kept-on (fixed r n x b) cs σ l k e p = subst (λ (m : Config). P (m .state) (m .history)) (next-same _ k (sym (step-turn (plan .layout) carried-on r n x b cs σ l) ∙ e)) p
+  kept-on (fixed r n x b) cs σ l k e p = subst (λ (m : Config). P (m .state) (m .history)) (next-same _ k (sym (step-turn (plan .layout) manner r n x b cs σ l) ∙ e)) p
 
-  pub along : {cs : List Bool} {k : Config} → Run carried-on plan cs k → P (k .state) (k .history)
+  pub along : {cs : List Bool} {k : Config} → Run manner plan cs k → P (k .state) (k .history)
   along here = first
   along (onward {k = k} {k′} h e) = kept-on (k .left) (k .choices) (k .state) (k .history) k′ e (along h)

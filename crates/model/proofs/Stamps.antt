@@ -9,9 +9,9 @@ use native.Mathlib.Omega.{arith}
 use lib.Dec.{eqb}
 use borrow.Author.Tests.{eqb-true}
 use Rattle.model.specs.declared.Tally.{Tally}
-use Rattle.model.specs.Sides.{Side, host, card, same-side, Stamp, never, at, equals, Layout}
+use Rattle.model.specs.Sides.{Side, same-side, Stamp, never, at, equals, Layout}
 use Rattle.model.specs.Records.{Verb, read, write, copy, need, mark, same-verb, Action, covers}
-use Rattle.model.specs.Effects.{Stamps, Flags, State, start, Deed, nothing, gets, puts, moves, comes-to, does, counted, deed, effect}
+use Rattle.model.specs.Effects.{Stamps, Flags, State, starts-filled, start, Deed, nothing, gets, puts, moves, comes-to, does, counted, deed, effect}
 use Rattle.model.specs.Blocks.{Plan}
 use Rattle.model.specs.Runs.{Event, Config, tally, carried-on, Run}
 use Rattle.model.specs.Demand.{latest-write}
@@ -35,11 +35,7 @@ old-stale w never h = refl
 old-stale w (at j) h = false-of (eqb j (suc w)) λ e. let q : j ≡ suc w = eqb-true j (suc w) e in omega arith
 
 past-start : (layout : Layout) → Past (start layout)
-past-start layout = record { held = held; latest = λ c. omega arith }
-  where
-    held : (s : Side) (c : ℕ) → Old 0 (start layout .cell c .held s)
-    held host c = omega arith
-    held card c = omega arith
+past-start layout = record { held = λ s c. old-cond 0 (starts-filled layout s c) (at 0) never (omega arith) tt; latest = λ c. omega arith }
 
 -- a deed that puts no stamp
 abbrev pub Quiet : Deed → Type 0
@@ -105,7 +101,7 @@ past-effect layout x σ p = go (write-or-quiet x σ)
 
 -- at every moment of a run, and of a carried-on run
 pub past : (plan : Plan) {cs : List Bool} {k : Config} → Run carried-on plan cs k → Past (k .state)
-past plan h = along plan (λ σ l. Past σ) (past-start (plan .layout)) (λ r x σ l. past-effect (plan .layout) x σ) h
+past plan h = along carried-on plan (λ σ l. Past σ) (past-start (plan .layout)) (λ r x σ l u. past-effect (plan .layout) x σ) h
 
 pub fresh : ClaimFresh
 fresh plan cs k h s c e = go (k .state .cell c .held s) (past plan h .held s c) e
@@ -154,7 +150,7 @@ tracked-effect layout r x σ l t = go (write-or-quiet x σ)
     }
 
 pub tracked : (plan : Plan) {cs : List Bool} {k : Config} → Run carried-on plan cs k → Tracked (plan .layout) (k .state) (k .history)
-tracked plan h = along plan (Tracked (plan .layout)) (record { writes = refl; latest = λ c. refl }) (tracked-effect (plan .layout)) h
+tracked plan h = along carried-on plan (Tracked (plan .layout)) (record { writes = refl; latest = λ c. refl }) (λ r x σ l u. tracked-effect (plan .layout) r x σ l) h
 
 pub latest-tracked : ClaimLatest
 latest-tracked plan cs k h = tracked plan h .latest

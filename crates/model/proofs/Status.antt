@@ -1,17 +1,17 @@
 -- The status of one cell: which of its copies are current and which flags of its array are set.
 -- What a record needs of the cell, and the status after it, follow from the status before it.
-use Prim.Native.Nat.{ℕ, suc}
+use Prim.Native.Nat.{ℕ, suc, _<_}
 use mathlib.Core.Path.{_≡_, refl, ap, sym, _∙_}
-use mathlib.Core.Bool.{Bool, true, false, cond, not, _||_}
+use mathlib.Core.Bool.{Bool, true, false, cond, not, _&&_, _||_}
 use borrow.Author.Tests.{eq-eqb}
-use Rattle.model.specs.Sides.{Side, host, card, same-side, Stamp, at, equals, Layout}
+use Rattle.model.specs.Sides.{Side, host, card, same-side, Stamp, never, at, equals, Layout, cell-count, is-scratch}
 use Rattle.model.specs.Records.{Action, covers}
-use Rattle.model.specs.Effects.{Stamps, State, current, Deed, nothing, gets, puts, moves, comes-to, needs, does, deed, met, effect}
+use Rattle.model.specs.Effects.{Stamps, State, current, starts-filled, start, Deed, nothing, gets, puts, moves, comes-to, needs, does, deed, met, effect}
 use Rattle.model.specs.Inner.Holders.{array-of}
 use Rattle.model.proofs.Bits.{Bits, equal, equal-true}
-use Rattle.model.proofs.Numbering.{covers-array}
+use Rattle.model.proofs.Numbering.{covers-array, scratch-own}
 use Rattle.model.proofs.Stamps.{Past, old-stale}
-pub use Rattle.model.specs.Inner.Statuses.{Status, current-on, flag-on, status, needs-of, makes-of, flags-in, comes-in, own, status-of, met-in, status-after}
+pub use Rattle.model.specs.Inner.Statuses.{Status, current-on, flag-on, status, at-start, needs-of, makes-of, flags-in, comes-in, own, status-of, met-in, status-after}
 
 -- a status as bits: nothing but the record above and these lines says how many statuses there are
 abbrev pub width : ℕ
@@ -65,6 +65,17 @@ module _ (layout : Layout) (c : ℕ) where
 
   flags-of : (σ : State) → σ .flags (array-of layout c) ≡ flags-in (status-of layout c σ)
   flags-of σ = λ i. record { flag = λ s. flag-of σ s i }
+
+  -- a cell starts as its array does
+  pub start-status : c < cell-count layout → status-of layout c (start layout) ≡ at-start (is-scratch layout (array-of layout c))
+  start-status h = λ i. status (λ s. copy s i) (λ s. same-side s host && not (is-scratch layout (array-of layout c)))
+    where
+      held : (b : Bool) → equals (cond b (at 0) never) 0 ≡ b
+      held true = refl
+      held false = refl
+
+      copy : (s : Side) → current (start layout .cell c) s ≡ (same-side s host && not (is-scratch layout (array-of layout c)))
+      copy s = held (starts-filled layout s c) ∙ ap (λ b. same-side s host && not b) (scratch-own layout c h)
 
   -- a record that covers the cell looks at the flags of its own array
   own-deed : (x : Action) (σ : State) → covers layout x c ≡ true → deed x σ ≡ comes-in x (status-of layout c σ) .0

@@ -1,7 +1,7 @@
 -- The twelve cases (document 01, 'Twelve cases, one array of one cell unless said'), in one table, the plan of 'Checkers that would nearly
--- do', and cases of fixed loops and of steps (document 02, requests a and c).
+-- do', and cases of fixed loops, of steps and of scratch (document 02, requests a, c and f).
 use Prim.Native.Nat.{ℕ}
-use mathlib.Core.Bool.{Bool, true}
+use mathlib.Core.Bool.{Bool, true, false}
 use mathlib.Core.List.{List, [], _∷_}
 use Rattle.model.specs.declared.Verdict.{Verdict}
 use Rattle.model.specs.declared.Verdict.the-variants.{Accepted}
@@ -21,7 +21,7 @@ pub record Case : Type 0 where
 
 -- one array of n cells
 abbrev pub single : ℕ → Layout
-single n = record { lengths = n ∷ [] }
+single n = record { lengths = n ∷ []; scratch = false ∷ [] }
 
 -- a row of it; the records of its body are numbered from 0
 abbrev pub case : ℕ → Block Action → Verdict → Case
@@ -121,6 +121,24 @@ abbrev pub MetTogether : Type 0
 MetTogether =
     Rules (single 4) (filling (every 2 0 4 write card ⨾ every 2 1 4 write card ⨾ done))
     × (Rules (single 4) (filling (every 2 0 4 write card ⨾ done)) → ⊥)
+
+-- a row of one array of one cell that is scratch
+abbrev pub scratch-case : Block Action → Verdict → Case
+scratch-case b v = record { plan = record { layout = record { lengths = 1 ∷ []; scratch = true ∷ [] }; body = numbered 0 b }; answer = v }
+
+-- "Grids nobody has filled"
+abbrev pub unfilled : List Case
+unfilled =
+    -- "both copies hold" never
+    scratch-case (read on host ⨾ done) (stopped-at 0 0)
+    ∷ scratch-case (copy on card ⨾ done) (stopped-at 0 0)
+    -- "its flags are clear": a need copies, from the other side
+    ∷ scratch-case (need on host ⨾ done) (stopped-at 0 0)
+    ∷ scratch-case (write on host ⨾ need on host ⨾ done) (stopped-at 1 0)
+    ∷ scratch-case (write on host ⨾ need on card ⨾ read on card ⨾ done) Accepted
+    -- written and marked it is like any other array
+    ∷ scratch-case (mark on card ⨾ write on card ⨾ need on host ⨾ read on host ⨾ read on card ⨾ done) Accepted
+    ∷ []
 
 -- every row's answer is the check's
 abbrev pub AllAnswer : List Case → Type 0

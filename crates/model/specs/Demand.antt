@@ -1,16 +1,18 @@
--- Demand 3 (document 01, 'The words of demand 3').
+-- Demand 3 (document 01, 'The words of demand 3'; document 02, request f).
 use Prim.Native.Nat.{ℕ, suc, _<_}
 use mathlib.Core.Path.{_≡_}
 use mathlib.Core.List.{List, [], _∷_, _++_, map, reverse}
 use mathlib.Core.Bool.{Bool, true, false, cond, not, _&&_}
 use lib.ListN.{length}
 use lib.Dec.{eqb}
+use Rattle.model.specs.declared.Verdict.the-variants.{Accepted}
 use Rattle.model.specs.Lists.{any, keep, chain, All}
-use Rattle.model.specs.Sides.{Side, host, same-side, at, Layout, cell-count}
+use Rattle.model.specs.Sides.{Side, host, same-side, at, Layout, cell-count, span-of, in-span, is-scratch, has-scratch, scratch-cell}
 use Rattle.model.specs.Records.{read, write, same-verb, whole, Action, covers}
 use Rattle.model.specs.Effects.{Deed, nothing, gets, puts, moves}
 use Rattle.model.specs.Blocks.{Block, act}
-use Rattle.model.specs.Runs.{Event, Config, finished, stopped, proper, Run, Ends, tally}
+use Rattle.model.specs.Runs.{Event, Config, finished, stopped, next, proper, step, Run, Ends, tally}
+use Rattle.model.specs.Check.{Answers}
 use Rattle.model.specs.Judging.{R-or-RW, W-or-RW, Declaration, Pass, DeclaredPlan, pass-of, Way, Itself}
 use Rattle.model.specs.Expanding.{inserted, expansion}
 
@@ -81,22 +83,31 @@ pub record ExactMoves (plan : DeclaredPlan) (cs : List Bool) (k : Config) : Type
   -- each gave its needs and marks, and all needs and marks that the run executed are theirs, in order
   pub gave : All (λ (d : Made). map (λ (e : Event). e .action) (d .events) ≡ inserted (d .declaration)) made
   pub in-order : keep (λ (e : Event). whole (e .action .verb)) (reverse (k .history)) ≡ events-of made
-  -- the first interval of an array begins at the start, on the host, every other one at a declared write, on its side
-  pub from-start : (a : ℕ) → MovesOnce a host (interval a made)
+  -- the first interval of an array begins at the start, on the host, if it is not scratch, every other one at a declared write, on its side
+  pub from-start : (a : ℕ) → is-scratch (plan .layout) a ≡ false → MovesOnce a host (interval a made)
+  -- "For such an array the first interval begins with its first mark": scratch does not move before
+  pub before-mark : (a c : ℕ) → is-scratch (plan .layout) a ≡ true → in-span (span-of (plan .layout) a) c ≡ true →
+      (t : Side) → moves-to a t (interval a made) ≡ 0
   pub from-write : (a : ℕ) (before after : List Made) (d : Made) → made ≡ before ++ (d ∷ after) → declares-write a d ≡ true →
       MovesOnce a (d .declaration .side) (interval a after)
 
+-- of a plan with scratch, that its "expansion passes the check"; of any other plan nothing is asked
+abbrev pub ScratchPasses : DeclaredPlan → Type 0
+ScratchPasses plan = has-scratch (plan .layout) ≡ true → Answers (expansion plan) Accepted
+
 -- Demand 3: "a single claim about a plan and the whole list of choices"
 pub record Demand3 (plan : DeclaredPlan) (cs : List Bool) : Type 0 where
-  -- no record gets stuck
-  pub never-stuck : (k : Config) (r c : ℕ) → Ends (expansion plan) cs k (stopped r c) → ⊥
-  -- every read gets the stamp of the latest write ("A read gets its cells' copies on its side")
-  pub reads-latest : (k : Config) → Run proper (expansion plan) cs k →
+  -- no record gets stuck; "Plans with such an array are free from stops if their expansion passes the check."
+  pub never-stuck : ScratchPasses plan → (k : Config) (r c : ℕ) → Ends (expansion plan) cs k (stopped r c) → ⊥
+  -- every read that is executed gets the stamp of the latest write ("A read gets its cells' copies on its side")
+  pub reads-latest : (k k′ : Config) → Run proper (expansion plan) cs k → step proper (plan .layout) k ≡ next k′ →
       (r : ℕ) (x : Action) (b : Block Action) → k .left ≡ act r x b → x .verb ≡ read →
       (c : ℕ) → c < cell-count (plan .layout) → covers (plan .layout) x c ≡ true →
       k .state .cell c .held (x .side) ≡ at (latest-write (plan .layout) (k .history) c)
-  -- at each moment each cell is current on some side: a copy of it holds the stamp of the latest write
+  -- at each moment each cell is current on some side: a copy of it holds the stamp of the latest write; of scratch this "is promised from
+  -- the cell's first write"
   pub always-current : (k : Config) → Run proper (expansion plan) cs k → (c : ℕ) → c < cell-count (plan .layout) →
+      (scratch-cell (plan .layout) c ≡ true → latest-write (plan .layout) (k .history) c ≡ 0 → ⊥) →
       (s : Side) × (k .state .cell c .held s ≡ at (latest-write (plan .layout) (k .history) c))
   -- in a finished run each array moves exactly when it must between two declared writes
   pub moves-exactly : (k : Config) → Ends (expansion plan) cs k finished → ExactMoves plan cs k

@@ -1,9 +1,9 @@
--- What a record on a side needs and does (document 01, 'What a record on side s does').
+-- What a record on a side needs and does (document 01, 'What a record on side s does'; document 02, request f).
 use Prim.Native.Nat.{ℕ, suc, _+_}
-use mathlib.Core.Bool.{Bool, true, cond, not, _||_}
+use mathlib.Core.Bool.{Bool, true, cond, not, _&&_, _||_}
 use lib.Dec.{eqb}
 use Rattle.model.specs.declared.Tally.{Tally}
-use Rattle.model.specs.Sides.{Side, host, other, same-side, Stamp, never, at, equals, Layout}
+use Rattle.model.specs.Sides.{Side, host, other, same-side, Stamp, never, at, equals, Layout, is-scratch, scratch-cell}
 use Rattle.model.specs.Records.{Verb, read, write, copy, need, mark, same-verb, Action, covers}
 
 -- "Each cell has a host copy, a card copy and a latest stamp": `held` and `latest`
@@ -25,11 +25,16 @@ pub record State : Type 0 where
 abbrev pub current : Stamps → Side → Bool
 current u s = equals (u .held s) (u .latest)
 
--- "At the start latest and host are 0 and the card holds" never; the flags are "at the start set for the host only"
+-- which copies are filled at the start: the host's; of scratch "both copies hold" never
+abbrev pub starts-filled : Layout → Side → ℕ → Bool
+starts-filled layout s c = same-side s host && not (scratch-cell layout c)
+
+-- "At the start latest and host are 0 and the card holds" never; the flags are "at the start set for the host only", of scratch "its flags
+-- are clear, latest is 0"
 abbrev pub start : Layout → State
 start layout = record {
-  cell = λ c. record { held = λ s. cond (same-side s host) (at 0) never; latest = 0 };
-  flags = λ n. record { flag = λ s. same-side s host };
+  cell = λ c. record { held = λ s. cond (starts-filled layout s c) (at 0) never; latest = 0 };
+  flags = λ n. record { flag = λ s. same-side s host && not (is-scratch layout n) };
   writes = 0;
 }
 

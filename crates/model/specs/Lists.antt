@@ -35,6 +35,11 @@ sum-before [] k = 0
 sum-before (n ∷ l) zero = 0
 sum-before (n ∷ l) (suc k) = n + sum-before l k
 
+-- whether one of the numbers below n passes the test
+abbrev pub some-below : (ℕ → Bool) → ℕ → Bool
+some-below f zero = false
+some-below f (suc n) = f n || some-below f n
+
 -- how many of the numbers below n pass the test
 abbrev pub how-many : (ℕ → Bool) → ℕ → ℕ
 how-many f zero = 0

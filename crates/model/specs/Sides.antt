@@ -1,10 +1,10 @@
--- Sides, cells, stamps (document 01, 'Sides, cells, stamps').
+-- Sides, cells, stamps (document 01, 'Sides, cells, stamps'; document 02, request f).
 use Prim.Native.Nat.{ℕ, _+_}
 use mathlib.Core.Bool.{Bool, false, _&&_}
 use mathlib.Core.List.{List}
-use lib.ListN.{getD}
+use lib.ListN.{length, getD}
 use lib.Dec.{ltb, leb, eqb}
-use Rattle.model.specs.Lists.{sum, sum-before}
+use Rattle.model.specs.Lists.{any, sum, sum-before, some-below}
 
 -- "Side 0 is the host, side 1 the card."
 pub data Side : Type 0 where
@@ -34,9 +34,10 @@ abbrev pub equals : Stamp → ℕ → Bool
 equals never k = false
 equals (at j) k = eqb j k
 
--- what a plan's contents say, and its records refer to: "per array its length"
+-- what a plan's contents say, and its records refer to: "per array its length", and whether its "highest bit .. marks scratch"
 pub record Layout : Type 0 where
   pub lengths : List ℕ
+  pub scratch : List Bool
 
 -- "Cells are numbered from 0 through all arrays in order": how many there are
 abbrev pub cell-count : Layout → ℕ
@@ -54,3 +55,15 @@ span-of layout n = record { first = sum-before (layout .lengths) n; length = get
 -- whether cell c is one of them
 abbrev pub in-span : Span → ℕ → Bool
 in-span these c = leb (these .first) c && ltb c (these .first + these .length)
+
+-- whether array n is scratch: one of the "Grids nobody has filled"
+abbrev pub is-scratch : Layout → ℕ → Bool
+is-scratch layout n = getD (layout .scratch) n false
+
+-- whether a plan has such an array
+abbrev pub has-scratch : Layout → Bool
+has-scratch layout = any (λ b. b) (layout .scratch)
+
+-- whether cell c is a cell of such an array
+abbrev pub scratch-cell : Layout → ℕ → Bool
+scratch-cell layout c = some-below (λ n. is-scratch layout n && in-span (span-of layout n) c) (length (layout .lengths))

@@ -1,19 +1,19 @@
 -- Tables, and the first cell of an array or the first record of a body: the one before it and its length.
 use mathlib.Core.Path.{_≡_, refl, sym, _∙_}
-use mathlib.Core.Bool.{cond}
+use mathlib.Core.Bool.{Bool, true, false, cond}
 use mathlib.Core.List.{List, [], _∷_}
-use Prim.Native.Nat.{ℕ, zero, suc, _+_, _≤_, _<_}
+use Prim.Native.Nat.{ℕ, zero, suc, _+_, _%_, _^_, _≤_, _<_}
 use native.Nat.{ℕᴺ-discrete}
 use native.Mathlib.Decide.{decLt}
 use native.Mathlib.Omega.{arith}
 use lib.Dec.{ltb, leb}
 use lib.ListN.{length, getD, set, length-append, length-set, List·getD-append}
 use lib.Seq.{getD-at, getD-set-same, getD-set-other, ext-getD}
-use borrow.Author.Tests.{lt-ltb, le-ltb, le-leb, lt-leb}
+use borrow.Author.Tests.{lt-ltb, le-ltb, leb-true, leb-false, le-leb, lt-leb}
 use Rattle.model.specs.Lists.{sum, sum-before}
-use Rattle.model.specs.Sides.{cell-count, span-of}
+use Rattle.model.specs.Sides.{cell-count, span-of, is-scratch}
 use Rattle.model.proofs.Numbering.{ends-within}
-use Rattle.reading.specs.Bytes.{array-count, body-count, table, length-at, lengths-of, layout-of, records-in, sizes-of, first-record}
+use Rattle.reading.specs.Bytes.{array-count, body-count, table, length-at, scratch-at, lengths-of, scratch-of, layout-of, records-in, sizes-of, first-record}
 
 module _ {A : Type 0} (g : ℕ → A) where
   pub length-table : (n : ℕ) → length (table g n) ≡ n
@@ -100,6 +100,32 @@ arrays-counted f = length-table (length-at f) (array-count f)
 pub array-length : (f : List ℕ) (a : ℕ) → a < array-count f → span-of (layout-of f) a .length ≡ length-at f a
 unfolding lengths-of
 array-length f a h = getD-table (length-at f) (array-count f) a 0 h
+
+-- and which of them are scratch
+pub scratch-counted : (f : List ℕ) → length (scratch-of f) ≡ array-count f
+unfolding scratch-of
+scratch-counted f = length-table (scratch-at f) (array-count f)
+
+pub scratch-is : (f : List ℕ) (a : ℕ) → a < array-count f → is-scratch (layout-of f) a ≡ scratch-at f a
+unfolding scratch-of
+scratch-is f a h = getD-table (scratch-at f) (array-count f) a false h
+
+-- an entry is the length and the bit that marks scratch
+pub entry-again : (n : ℕ) → n < 2 ^ 16 → n % 2 ^ 15 + cond (leb (2 ^ 15) n) (2 ^ 15) 0 ≡ n
+entry-again n h = go (leb (2 ^ 15) n) refl
+  where
+    go : (b : Bool) → leb (2 ^ 15) n ≡ b → n % 2 ^ 15 + cond b (2 ^ 15) 0 ≡ n
+    go true e = let l = leb-true (2 ^ 15) n e in omega arith
+    go false e = let l = leb-false (2 ^ 15) n e in omega arith
+
+-- and both are read from it again
+pub length-again : (n : ℕ) (b : Bool) → n < 2 ^ 15 → (n + cond b (2 ^ 15) 0) % 2 ^ 15 ≡ n
+length-again n true h = omega arith
+length-again n false h = omega arith
+
+pub scratch-again : (n : ℕ) (b : Bool) → n < 2 ^ 15 → leb (2 ^ 15) (n + cond b (2 ^ 15) 0) ≡ b
+scratch-again n true h = le-leb (2 ^ 15) (n + 2 ^ 15) (omega arith)
+scratch-again n false h = lt-leb (2 ^ 15) (n + 0) (omega arith)
 
 -- the first cell of an array and the first record of a body of a file
 pub next-cell : (f : List ℕ) (a : ℕ) → a < array-count f → span-of (layout-of f) (suc a) .first ≡ span-of (layout-of f) a .first + length-at f a

@@ -1,5 +1,5 @@
--- The parts of a plan file, by their places in its bytes (document 01, 'The plan file').
-use Prim.Native.Nat.{ℕ, zero, suc, _+_, _*_}
+-- The parts of a plan file, by their places in its bytes (document 01, 'The plan file'; document 02, requests a, c and f).
+use Prim.Native.Nat.{ℕ, zero, suc, _+_, _*_, _%_, _^_}
 use mathlib.Core.Bool.{Bool, cond, _&&_, _||_}
 use mathlib.Core.List.{List, [], _∷_, _++_}
 use lib.ListN.{getD}
@@ -40,17 +40,25 @@ unfoldable pub table : {A : Type 0} → (ℕ → A) → ℕ → List A
 table g zero = []
 table g (suc n) = table g n ++ (g n ∷ [])
 
--- "Contents: per array its length in two bytes"
+-- "Contents: per array its length in two bytes"; "Number 4 reads the length without that bit." (document 02)
 unfoldable pub length-at : List ℕ → ℕ → ℕ
-length-at f a = u16-at f (4 + 2 * a)
+length-at f a = u16-at f (4 + 2 * a) % 2 ^ 15
+
+-- "The highest bit of an array's length now marks scratch" (document 02)
+unfoldable pub scratch-at : List ℕ → ℕ → Bool
+scratch-at f a = leb (2 ^ 15) (u16-at f (4 + 2 * a))
 
 -- the lengths of all arrays
 unfoldable pub lengths-of : List ℕ → List ℕ
 lengths-of f = table (length-at f) (array-count f)
 
+-- which of them are scratch
+unfoldable pub scratch-of : List ℕ → List Bool
+scratch-of f = table (scratch-at f) (array-count f)
+
 -- what the contents say of the arrays
 abbrev pub layout-of : List ℕ → Layout
-layout-of f = record { lengths = lengths-of f }
+layout-of f = record { lengths = lengths-of f; scratch = scratch-of f }
 
 -- "per body four bytes: its records (two bytes ..), its declarations (one byte), zero": where body b's entry stands
 unfoldable pub entry-at : List ℕ → ℕ → ℕ

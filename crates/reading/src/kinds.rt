@@ -46,6 +46,9 @@ pub const MOST_CELLS: u16 = 4096;
 
 pub const CELLS: usize = 4096;
 
+// "The highest bit of an array's length now marks scratch".
+pub const SCRATCH: u16 = 32768;
+
 // "its records (.. together at most 1,024)": the limit, the same of an expansion, and a table with an entry for each record and one after the last.
 pub const MOST_RECORDS: u16 = 1024;
 

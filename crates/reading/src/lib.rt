@@ -2,12 +2,13 @@
 ghost use mathlib.Core.Path.{_≡_};
 ghost use Prim.Native.Nat.{_+_, _*_, _≤_, _<_};
 ghost use lib.ListN.{length, getD};
-ghost use Rattle.reading.specs.Bytes.{byte-at, u16-at, entry-at, bodies-at, fields-at, nests, first-arm, second-arm, turns-of};
+ghost use Rattle.reading.specs.Bytes.{byte-at, u16-at, length-at, scratch-at, entry-at, bodies-at, fields-at, nests, first-arm, second-arm, turns-of};
 ghost use Rattle.reading.specs.Inner.Cells.{from-of, to-of, step-of};
 use kinds::BRANCH;
 use kinds::COPY;
 use kinds::FIXED;
 use kinds::LOOP;
+use kinds::SCRATCH;
 use kinds::STARTS;
 
 pub mod kinds;
@@ -59,6 +60,22 @@ pub fn number_at(plan: &[u8], at: usize) -> u16
     ensures { λ r. ⌜ r ≡ u16-at (now (plan .entry)) at ⌝ }
 {
     wide(plan[at]) + wide(plan[at + 1]) * 256
+}
+
+// The length of an array whose entry stands inside the plan: without the bit that marks scratch.
+pub fn length_at(plan: &[u8], a: usize) -> u16
+    requires { ⌜ 4 + 2 * a + 2 ≤ length (now plan) ⌝ }
+    ensures { λ r. ⌜ r ≡ length-at (now (plan .entry)) a ⌝ }
+{
+    number_at(plan, 4 + 2 * a) % SCRATCH
+}
+
+// Whether that array is scratch.
+pub fn scratch_at(plan: &[u8], a: usize) -> bool
+    requires { ⌜ 4 + 2 * a + 2 ≤ length (now plan) ⌝ }
+    ensures { λ r. ⌜ r ≡ scratch-at (now (plan .entry)) a ⌝ }
+{
+    SCRATCH <= number_at(plan, 4 + 2 * a)
 }
 
 // The fields of record r, which stands inside a plan whose bodies begin at `bodies`.

@@ -26,8 +26,8 @@ use reading::kinds::READ;
 use reading::kinds::RW;
 use reading::kinds::W;
 use reading::kinds::WRITE;
+use reading::length_at;
 use reading::nests;
-use reading::number_at;
 use reading::second_arm;
 use reading::turns_of;
 
@@ -37,7 +37,7 @@ fn array_size(plan: &[u8], arrays: u8, a: u8) -> u16
     ensures { λ r. ⌜ (a < array-count (now (plan .entry)) → r ≡ length-at (now (plan .entry)) a) ⌝ }
 {
     if a < arrays {
-        return number_at(plan, 4 + 2 * (a as usize));
+        return length_at(plan, a as usize);
     }
     0
 }

@@ -15,7 +15,8 @@ use Rattle.model.specs.Effects.{start}
 use Rattle.model.specs.Runs.{Ending, stopped, here}
 use Rattle.model.proofs.Stamps.{past}
 use Rattle.model.proofs.Status.{Status, met-in, status-after}
-use Rattle.sheet.specs.Sheets.{one-cell, operations, sequences, sequence-plan, ending-of, stops-at, passes, count, places, figures}
+use Rattle.model.specs.Cases.{single}
+use Rattle.sheet.specs.Sheets.{operations, sequences, sequence-plan, ending-of, stops-at, passes, count, places, figures}
 use Rattle.sheet.specs.Claims.{EachCounted}
 use Rattle.model.specs.Lists.{sum}
 use Rattle.sheet.proofs.Statuses.{sum-none, by-status, by-run, length-sequences}
@@ -59,10 +60,10 @@ module _ (test : Option Ending → Bool) where
 -- a run does not stop at a place before its first record
 not-before : (p n r : ℕ) (u : Status) → p ≤ r → by-status (stops-at p) n r u ≡ 0
 not-before p zero r u h = refl
-not-before p (suc n) r u h = sum-none _ (λ x. go x (met-in one-cell 0 x u) (not-before p n (suc r) (status-after one-cell 0 x u) (omega arith))) operations
+not-before p (suc n) r u h = sum-none _ (λ x. go x (met-in (single 1) 0 x u) (not-before p n (suc r) (status-after (single 1) 0 x u) (omega arith))) operations
   where
-    go : (x : Action) (b : Bool) → by-status (stops-at p) n (suc r) (status-after one-cell 0 x u) ≡ 0 →
-        cond b (by-status (stops-at p) n (suc r) (status-after one-cell 0 x u)) (cond (eqb (suc r) p) (6 ^ n) 0) ≡ 0
+    go : (x : Action) (b : Bool) → by-status (stops-at p) n (suc r) (status-after (single 1) 0 x u) ≡ 0 →
+        cond b (by-status (stops-at p) n (suc r) (status-after (single 1) 0 x u)) (cond (eqb (suc r) p) (6 ^ n) 0) ≡ 0
     go x true e = e
     go x false e = rw (ne-eqb (suc r) p (λ q. omega arith))
 
@@ -90,11 +91,11 @@ all-weighed (suc n) r one both =
     later p h = weighed-more (stops-at p) n r one both ∙ rw (ne-eqb (suc r) p (λ q. omega arith)) (omega arith)
 
 pub figures-counted : (n : ℕ) → figures n ≡ counted n 1 0
-unfolding figures
+unfolding figures holder
 figures-counted n = ap₂ _++_ (map-from _ _ 1 n (λ p h. run (stops-at p))) (ap (λ k. k ∷ []) (run passes)) ∙ all-weighed n 0 1 0
   where
     run : (test : Option Ending → Bool) → count (λ l. test (ending-of l)) (sequences n) ≡ weighed test n 0 1 0
-    run test = by-run test n 0 (start one-cell) [] (past (sequence-plan []) {cs = []} here) ∙ omega arith
+    run test = by-run test n 0 (start (single 1)) [] (past (sequence-plan []) {cs = []} here) ∙ omega arith
 
 sum-counted : (n one both : ℕ) → sum (counted n one both) ≡ (one + both) * 6 ^ n
 sum-counted zero one both = omega arith

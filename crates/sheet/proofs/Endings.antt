@@ -8,7 +8,8 @@ use Rattle.model.specs.Records.{Action}
 use Rattle.model.specs.Effects.{State, effect}
 use Rattle.model.specs.Runs.{Event, Config, Ending, finished, stopped, next, stop-or, lowest-unmet, here, onward, Run, Ends, proper}
 use Rattle.model.proofs.Runs.{config, event}
-use Rattle.sheet.specs.Sheets.{one-cell, records, sequence-plan, after-step, ending-in}
+use Rattle.model.specs.Cases.{single}
+use Rattle.sheet.specs.Sheets.{records, sequence-plan, after-step, ending-in}
 use Rattle.sheet.specs.Claims.{AllEndSo}
 
 module _ (all : List Action) where
@@ -22,12 +23,12 @@ module _ (all : List Action) where
   left : (l : List Action) (r : ℕ) (σ : State) (h : List Event) → Run proper (sequence-plan all) [] (config (records r l) [] σ h) → Left l (config (records r l) [] σ h)
   unfolding ending-in
   left [] r σ h run = record { last = _; ending = finished; ends = record { run = run; last = refl }; counted = refl }
-  left (x ∷ l) r σ h run = go (lowest-unmet one-cell x σ) refl (left l (suc r) (effect one-cell x σ) (event r x σ ∷ h))
+  left (x ∷ l) r σ h run = go (lowest-unmet (single 1) x σ) refl (left l (suc r) (effect (single 1) x σ) (event r x σ ∷ h))
     where
       after : Config
-      after = config (records (suc r) l) [] (effect one-cell x σ) (event r x σ ∷ h)
+      after = config (records (suc r) l) [] (effect (single 1) x σ) (event r x σ ∷ h)
 
-      go : (o : Option ℕ) → lowest-unmet one-cell x σ ≡ o → (Run proper (sequence-plan all) [] after → Left l after) → Left (x ∷ l) (config (records r (x ∷ l)) [] σ h)
+      go : (o : Option ℕ) → lowest-unmet (single 1) x σ ≡ o → (Run proper (sequence-plan all) [] after → Left l after) → Left (x ∷ l) (config (records r (x ∷ l)) [] σ h)
       go none q more =
           let m = more (onward run (ap (λ o. stop-or r o (next after)) q)) in
           record { last = m .last; ending = m .ending; ends = m .ends; counted = ap (λ o. after-step (ending-in (suc (length l))) (stop-or r o (next after))) q ∙ m .counted }

@@ -13,7 +13,8 @@ use Rattle.model.specs.Runs.{Event, Ending, finished, stopped, next, stop-or}
 use Rattle.model.proofs.Runs.{config, event}
 use Rattle.model.proofs.Stamps.{Past, past-effect}
 use Rattle.model.proofs.Status.{Status, status-of, met-in, status-after, met-status, status-effect}
-use Rattle.sheet.specs.Sheets.{one-cell, operations, sequences, records, after-step, ending-in, count}
+use Rattle.model.specs.Cases.{single}
+use Rattle.sheet.specs.Sheets.{operations, sequences, records, after-step, ending-in, count}
 
 -- the sum over a list
 abbrev pub sum : {A : Type 0} → (A → ℕ) → List A → ℕ
@@ -73,27 +74,27 @@ module _ (test : Option Ending → Bool) where
   -- how many of the sequences of length n pass the test, where their first record is r and the cell's status before it is u
   abbrev pub by-status : ℕ → ℕ → Status → ℕ
   by-status zero r u = cond (test (some finished)) 1 0
-  by-status (suc n) r u = sum (λ x. cond (met-in one-cell 0 x u) (by-status n (suc r) (status-after one-cell 0 x u)) (cond (test (some (stopped r 0))) (6 ^ n) 0)) operations
+  by-status (suc n) r u = sum (λ x. cond (met-in (single 1) 0 x u) (by-status n (suc r) (status-after (single 1) 0 x u)) (cond (test (some (stopped r 0))) (6 ^ n) 0)) operations
 
   -- the runs from a state are counted by the status of the cell in it
   pub by-run : (n r : ℕ) (σ : State) (h : List Event) → Past σ →
-      count (λ l. test (ending-in (suc (length l)) (config (records r l) [] σ h))) (sequences n) ≡ by-status n r (status-of one-cell 0 σ)
+      count (λ l. test (ending-in (suc (length l)) (config (records r l) [] σ h))) (sequences n) ≡ by-status n r (status-of (single 1) 0 σ)
   unfolding sequences ending-in
   by-run zero r σ h p = refl
-  by-run (suc n) r σ h p = count-first _ n ∙ sum-same _ _ (λ x. each x (by-run n (suc r) (effect one-cell x σ) (event r x σ ∷ h) (past-effect one-cell x σ p))) operations
+  by-run (suc n) r σ h p = count-first _ n ∙ sum-same _ _ (λ x. each x (by-run n (suc r) (effect (single 1) x σ) (event r x σ ∷ h) (past-effect (single 1) x σ p))) operations
     where
       u : Status
-      u = status-of one-cell 0 σ
+      u = status-of (single 1) 0 σ
 
       -- a sequence that begins with x, by whether x is met
       ending : Action → Bool → List Action → Option Ending
-      ending x b l = after-step (ending-in (suc (length l))) (stop-or r (cond b none (some 0)) (next (config (records (suc r) l) [] (effect one-cell x σ) (event r x σ ∷ h))))
+      ending x b l = after-step (ending-in (suc (length l))) (stop-or r (cond b none (some 0)) (next (config (records (suc r) l) [] (effect (single 1) x σ) (event r x σ ∷ h))))
 
-      each : (x : Action) → count (λ l. test (ending x true l)) (sequences n) ≡ by-status n (suc r) (status-of one-cell 0 (effect one-cell x σ)) →
-          count (λ l. test (ending x (met one-cell x σ 0) l)) (sequences n) ≡
-          cond (met-in one-cell 0 x u) (by-status n (suc r) (status-after one-cell 0 x u)) (cond (test (some (stopped r 0))) (6 ^ n) 0)
-      each x more = rw (← met-status one-cell 0 x σ, ← status-effect one-cell 0 x σ p) (go (met one-cell x σ 0))
+      each : (x : Action) → count (λ l. test (ending x true l)) (sequences n) ≡ by-status n (suc r) (status-of (single 1) 0 (effect (single 1) x σ)) →
+          count (λ l. test (ending x (met (single 1) x σ 0) l)) (sequences n) ≡
+          cond (met-in (single 1) 0 x u) (by-status n (suc r) (status-after (single 1) 0 x u)) (cond (test (some (stopped r 0))) (6 ^ n) 0)
+      each x more = rw (← met-status (single 1) 0 x σ, ← status-effect (single 1) 0 x σ p) (go (met (single 1) x σ 0))
         where
-          go : (b : Bool) → count (λ l. test (ending x b l)) (sequences n) ≡ cond b (by-status n (suc r) (status-of one-cell 0 (effect one-cell x σ))) (cond (test (some (stopped r 0))) (6 ^ n) 0)
+          go : (b : Bool) → count (λ l. test (ending x b l)) (sequences n) ≡ cond b (by-status n (suc r) (status-of (single 1) 0 (effect (single 1) x σ))) (cond (test (some (stopped r 0))) (6 ^ n) 0)
           go true = more
           go false = count-all (test (some (stopped r 0))) (sequences n) ∙ rw (length-sequences n)

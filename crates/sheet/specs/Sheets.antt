@@ -8,15 +8,11 @@ use lib.Dec.{eqb, ltb}
 use Rattle.model.specs.declared.Verdict.{Verdict}
 use Rattle.model.specs.Verdicts.{accepted}
 use Rattle.model.specs.Rows.{row, answer-of}
-use Rattle.model.specs.Sides.{host, card, Layout}
+use Rattle.model.specs.Sides.{host, card}
 use Rattle.model.specs.Records.{read, write, copy, Action}
 use Rattle.model.specs.Blocks.{Block, done, act, Plan}
 use Rattle.model.specs.Runs.{Config, Ending, finished, stopped, out-of-choices, Step, next, ends, proper, step, begin}
-use Rattle.model.specs.Cases.{_on_}
-
--- "over one cell": one array of one cell
-abbrev pub one-cell : Layout
-one-cell = record { lengths = 1 ∷ [] }
+use Rattle.model.specs.Cases.{single, _on_}
 
 -- "The six operations are read, write and copy, each on either side."
 abbrev pub operations : List Action
@@ -32,9 +28,9 @@ abbrev pub records : ℕ → List Action → Block Action
 records r [] = done
 records r (x ∷ l) = act r x (records (suc r) l)
 
--- the plan of a sequence
+-- the plan of a sequence, "over one cell"
 abbrev pub sequence-plan : List Action → Plan
-sequence-plan l = record { layout = one-cell; body = records 0 l }
+sequence-plan l = record { layout = single 1; body = records 0 l }
 
 -- a step leads on, or the run has ended
 abbrev pub after-step : (Config → Option Ending) → Step → Option Ending
@@ -44,7 +40,7 @@ after-step more (ends e) = some e
 -- how a run ends, by the definition's own step, if it does so in n steps
 unfoldable pub ending-in : ℕ → Config → Option Ending
 ending-in zero k = none
-ending-in (suc n) k = after-step (ending-in n) (step proper one-cell k)
+ending-in (suc n) k = after-step (ending-in n) (step proper (single 1) k)
 
 -- how the run of a sequence "from the usual start" ends: it makes no choice, and takes a step for each record and one for the end
 abbrev pub ending-of : List Action → Option Ending

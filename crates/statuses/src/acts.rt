@@ -3,7 +3,7 @@ ghost use mathlib.Core.Path.{_≡_};
 ghost use mathlib.Core.Logic.{_⊎_};
 ghost use mathlib.Core.Bool.{true, false, not};
 ghost use Prim.Native.Nat.{_≤_, _<_};
-ghost use Rattle.model.specs.Inner.Statuses.{Status};
+ghost use Rattle.model.specs.Inner.Statuses.{Status, at-start};
 ghost use Rattle.format.specs.Plans.{side-of, verb-of};
 ghost use Rattle.statuses.specs.Inner.Sets.{statuses, index, In, touched-met, touched-after};
 ghost use Rattle.statuses.specs.Inner.Ran.{Ran};
@@ -16,8 +16,12 @@ use crate::sets::union;
 // Stands for no record.
 pub const NONE: u16 = 65535;
 
-// The status at the start: host copy current, host flag set.
-pub const START: usize = 10;
+// The status of a cell at the start: host copy current, host flag set; of scratch neither copy current, no flag set.
+pub fn start_of(scratch: bool) -> usize
+    ensures { λ r. ⌜ (r < statuses) × (r ≡ index (at-start scratch)) ⌝ }
+{
+    if scratch { 0 } else { 10 }
+}
 
 // The statuses that can be reached, and the lowest record at which the cell can stop, NONE if there is none.
 pub struct Found {

@@ -5,14 +5,14 @@ use mathlib.Core.Logic.{inl, inr, _↔_}
 use mathlib.Core.Bool.{true, false}
 use native.Mathlib.Omega.{arith}
 use lib.Dec.{eqb}
-use borrow.Author.Tests.{eqb-true}
+use borrow.Author.Tests.{eqb-true, eq-eqb}
 use Rattle.model.specs.Sides.{Layout}
 use Rattle.model.specs.Records.{Action, covers}
 use Rattle.model.specs.Blocks.{Block, done, act, branch, _then_}
 use Rattle.model.proofs.Status.{Status}
 use Rattle.model.proofs.Through.{Goes, Stops}
 use Rattle.statuses.specs.declared.acts.Found.{Found}
-use Rattle.statuses.specs.Inner.Sets.{statuses, index, bit, In, Union, at-start, touched-met, touched-after}
+use Rattle.statuses.specs.Inner.Sets.{statuses, index, bit, In, Union, touched-met, touched-after}
 use Rattle.statuses.specs.Inner.Ran.{Ran}
 use Rattle.statuses.proofs.Statuses.{index-below, index-one, in-union}
 use Rattle.summary.proofs.Touched.{touched-met-in, touched-status-after}
@@ -42,12 +42,15 @@ ran-from h m = record {
   least = λ u r f s. m .least u r (h u .1 f) s;
 }
 
--- the set of the status at the start
-abbrev pub Begins : ℕ → Type 0
-Begins set = (i : ℕ) → i < statuses → bit set i ≡ eqb i 10
+-- the set of one status, w
+abbrev pub Begins : Status → ℕ → Type 0
+Begins w set = (i : ℕ) → i < statuses → bit set i ≡ eqb i (index w)
 
-pub start-in : (set : ℕ) → Begins set → (u : Status) → In set u ↔ (u ≡ at-start)
-start-in set b u = (λ e. index-one u at-start (eqb-true _ 10 (sym (b (index u) (index-below u)) ∙ e)), λ e. rw e (b 10 (omega arith)))
+pub start-in : (w : Status) (set : ℕ) → Begins w set → (u : Status) → In set u ↔ (u ≡ w)
+start-in w set b u = (
+  λ e. index-one u w (eqb-true (index u) (index w) (sym (b (index u) (index-below u)) ∙ e)),
+  λ e. rw e (b (index w) (index-below w) ∙ eq-eqb (index w) (index w) refl),
+)
 
 module _ (layout : Layout) (c : ℕ) where
   -- t is what is found of a block

@@ -1,14 +1,15 @@
--- The bytes of a file, read and written again: its array lengths and its records are the bytes that stand there.
+-- The bytes of a file, read and written again: the entries of its arrays and its records are the bytes that stand there.
 use mathlib.Core.Path.{_≡_, refl, sym, ap, _∙_}
 use mathlib.Core.List.{List, [], _∷_, _++_, append-nil}
-use Prim.Native.Nat.{ℕ, zero, suc, _+_, _*_, _-_, _/_, _%_, _≤_, _<_}
+use Prim.Native.Nat.{ℕ, zero, suc, _+_, _*_, _-_, _/_, _%_, _^_, _≤_, _<_}
 use native.Mathlib.Nat.{add-zero, mul-zero, mul-suc}
 use native.Mathlib.Omega.{arith}
 use lib.ListN.{length, take, drop, length-drop}
 use lib.Seq.{take-suc, getD-drop, take-add, drop-drop, drop-at, length-take-le}
 use Rattle.reading.specs.declared.Fields.{Fields}
-use Rattle.reading.specs.Bytes.{byte-at, u16-at, table, array-count, length-at, bodies-at, fields-at, lengths-of}
-use Rattle.files.specs.Files.{u16-bytes, record-bytes}
+use Rattle.reading.specs.Bytes.{byte-at, u16-at, table, array-count, length-at, scratch-at, layout-of, bodies-at, fields-at}
+use Rattle.reading.proofs.Tables.{array-length, scratch-is, entry-again}
+use Rattle.files.specs.Files.{u16-bytes, record-bytes, array-entry}
 use Rattle.model.specs.Lists.{chain}
 use Rattle.given.specs.Inner.Over.{bytes-of}
 use Rattle.given.proofs.Records.{joined-append, bytes-append}
@@ -37,13 +38,21 @@ module _ (f : List ℕ) (small : (i : ℕ) → byte-at f i < 256) where
   unfolding u16-at
   u16-high i = let l = small i in omega arith
 
-  length-again : (a : ℕ) → 4 + 2 * a + 2 ≤ length f → u16-bytes (length-at f a) ≡ take 2 (drop (4 + 2 * a) f)
-  unfolding length-at table
-  length-again a h = rw (u16-low (4 + 2 * a), u16-high (4 + 2 * a)) (rw add-zero at (bytes-from f (4 + 2 * a) 2 h))
+  u16-small : (i : ℕ) → u16-at f i < 2 ^ 16
+  unfolding u16-at
+  u16-small i = omega (arith, small i, small (i + 1))
 
-  pub lengths-again : 4 + 2 * array-count f ≤ length f → chain u16-bytes (lengths-of f) ≡ take (2 * array-count f) (drop 4 f)
-  unfolding lengths-of
-  lengths-again h = joined-table f u16-bytes (length-at f) 2 4 (array-count f) (λ a l. length-again a (omega arith))
+  -- the bit that marks scratch is kept
+  entry-is : (a : ℕ) → a < array-count f → array-entry (layout-of f) a ≡ u16-at f (4 + 2 * a)
+  unfolding length-at scratch-at
+  entry-is a l = rw (array-length f a l, scratch-is f a l) (entry-again (u16-at f (4 + 2 * a)) (u16-small (4 + 2 * a)))
+
+  array-again : (a : ℕ) → a < array-count f → 4 + 2 * a + 2 ≤ length f → u16-bytes (array-entry (layout-of f) a) ≡ take 2 (drop (4 + 2 * a) f)
+  unfolding table
+  array-again a l h = ap u16-bytes (entry-is a l) ∙ rw (u16-low (4 + 2 * a), u16-high (4 + 2 * a)) (rw add-zero at (bytes-from f (4 + 2 * a) 2 h))
+
+  pub arrays-again : 4 + 2 * array-count f ≤ length f → chain u16-bytes (table (array-entry (layout-of f)) (array-count f)) ≡ take (2 * array-count f) (drop 4 f)
+  arrays-again h = joined-table f u16-bytes (array-entry (layout-of f)) 2 4 (array-count f) (λ a l. array-again a l (omega arith))
 
   record-again : (r : ℕ) → bodies-at f + 8 * r + 8 ≤ length f → record-bytes (fields-at f r) ≡ take 8 (drop (bodies-at f + 8 * r) f)
   unfolding fields-at table

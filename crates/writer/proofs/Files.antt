@@ -1,4 +1,4 @@
--- The expansion's file, part by part: header, array lengths, the entry of its body, the records, the check bytes.
+-- The expansion's file, part by part: header, the arrays' entries, the entry of its body, the records, the check bytes.
 use mathlib.Core.Path.{_≡_, refl, sym, ap, _∙_}
 use mathlib.Core.List.{List, [], _∷_, _++_, append-assoc, append-nil}
 use Prim.Native.Nat.{ℕ, _+_, _*_, _-_, _≤_, _<_}
@@ -8,10 +8,10 @@ use lib.Seq.{length-take-le}
 use borrow.Rule.Slice.PartMut.{midOf, putMid}
 use Rattle.model.specs.Sides.{Layout}
 use Rattle.reading.specs.declared.Fields.{Fields}
-use Rattle.reading.specs.Bytes.{byte-at, array-count, layout-of, entry-at, records-in}
+use Rattle.reading.specs.Bytes.{byte-at, table, array-count, layout-of, entry-at, records-in}
 use Rattle.sums.specs.Sums.{check-bytes}
 use Rattle.format.specs.Plans.{declared-plan-of}
-use Rattle.files.specs.Files.{u16-bytes, record-bytes, Body, front, file}
+use Rattle.files.specs.Files.{u16-bytes, record-bytes, Body, array-entry, front, file}
 use Rattle.model.specs.Lists.{chain}
 use Rattle.reading.proofs.Tables.{arrays-counted}
 use Rattle.format.proofs.Walking.{opened-facts}
@@ -23,11 +23,11 @@ use Rattle.writer.specs.Inner.Pieces.{pieces, contents-bytes}
 use Rattle.given.proofs.Records.{bytes-length}
 use Rattle.given.proofs.Over.{over-lent}
 use Rattle.writer.proofs.Over.{over-again, over-front}
-use Rattle.writer.proofs.Bytes.{lengths-again}
+use Rattle.writer.proofs.Bytes.{arrays-again}
 use Rattle.writer.proofs.Pieces.{pieces-length}
 use Rattle.writer.proofs.Expansions.{expansion-fields, expansion-size}
 
--- header and array lengths; with the entry of the body and the records
+-- header and the arrays' entries; with the entry of the body and the records
 unfoldable pub lengths-written : List ℕ → List ℕ
 lengths-written f = (2 ∷ array-count f ∷ 1 ∷ 0 ∷ []) ++ take (2 * array-count f) (drop 4 f)
 
@@ -63,7 +63,7 @@ module _ (layout : Layout) (l : List Fields) where
   body = record { declarations = 0; records = l }
 
   abbrev summed : List ℕ
-  summed = (((2 ∷ length (layout .lengths) ∷ 1 ∷ 0 ∷ []) ++ chain u16-bytes (layout .lengths)) ++ (u16-bytes (length l) ++ (0 ∷ 0 ∷ []))) ++ bytes-of l
+  summed = (((2 ∷ length (layout .lengths) ∷ 1 ∷ 0 ∷ []) ++ chain u16-bytes (table (array-entry layout) (length (layout .lengths)))) ++ (u16-bytes (length l) ++ (0 ∷ 0 ∷ []))) ++ bytes-of l
 
   plain-summed : summed ≡ front 2 layout (body ∷ []) ++ chain (λ (b : Body). chain record-bytes (b .records)) (body ∷ [])
   unfolding bytes-of
@@ -91,7 +91,7 @@ module _ (f : List ℕ) (given : DeclaredFile f) where
 
   written-is : ((i : ℕ) → byte-at f i < 256) → records-written f ≡ summed (layout-of f) (pieces f (records-in f 0))
   unfolding records-written contents-bytes
-  written-is small = rw (arrays-counted f, lengths-again f small contents-within, pieces-length f (records-in f 0))
+  written-is small = rw (arrays-counted f, arrays-again f small contents-within, pieces-length f (records-in f 0))
 
   file-is : ((i : ℕ) → byte-at f i < 256) → records-written f ++ check-bytes (records-written f) ≡ expansion-file f
   unfolding declared-plan-of

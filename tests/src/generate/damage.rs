@@ -126,13 +126,14 @@ fn harm_header(rng: &mut Rng, draft: &Draft, file: &mut [u8]) {
 
 fn harm_lengths(rng: &mut Rng, draft: &Draft, file: &mut [u8]) {
     let array = rng.below(draft.arrays.len());
-    let before: usize = draft.arrays[..array].iter().map(|&n| n as usize).sum();
-    let after: usize = draft.arrays[array + 1..].iter().map(|&n| n as usize).sum();
+    let before: usize = (0..array).map(|a| draft.length(a)).sum();
+    let after: usize = (array + 1..draft.arrays.len()).map(|a| draft.length(a)).sum();
     // Both sides of the bound, for the length and for the total here or later.
     let length = match rng.below(7) {
         0 => 0,
         1 => 4097,
-        2 => rng.pick(&[32768, 61440, 65535]),
+        // Length 0 with the bit that marks scratch, and more than 4,096 with it.
+        2 => rng.pick(&[32768, 36865, 61440, 65535]),
         3 => 4096 - before,
         4 => 4097 - before,
         5 => 4097usize.saturating_sub(before + after),
@@ -213,7 +214,8 @@ fn some_record(rng: &mut Rng, draft: &Draft, file: &[u8]) -> Option<(usize, u8)>
 fn harm_fields(rng: &mut Rng, draft: &Draft, file: &mut [u8]) {
     let Some((at, kind)) = some_record(rng, draft, file) else { return };
     let arrays = draft.arrays.len();
-    let length = draft.arrays.get(file[at + 2] as usize).map_or(1, |&n| n as usize);
+    let array = file[at + 2] as usize;
+    let length = if array < arrays { draft.length(array) } else { 1 };
     if rng.chance(15) {
         file[at + 3] = rng.between(1, 255) as u8;
         return;

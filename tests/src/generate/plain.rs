@@ -208,7 +208,7 @@ fn one_of_several(rng: &mut Rng, act: &mut dyn FnMut(&mut Rng) -> Raw) -> Vec<St
 pub fn mend(rng: &mut Rng, draft: &mut Draft, times: usize, stops: &dyn Fn(&[u8]) -> Option<usize>) {
     for _ in 0..times {
         let Some(record) = stops(&encode(draft)) else { return };
-        let act = any_act(rng, &draft.arrays);
+        let act = any_act(rng, &draft.lengths());
         draft.bodies[0].records[record] = act;
     }
 }

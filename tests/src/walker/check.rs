@@ -57,10 +57,15 @@ pub fn brute_on(plan: &Plan, cells: &[usize]) -> Option<Stop> {
     let flow = plan.flow(0..end, end);
     let watched: Vec<u64> = plan.records.iter().map(|x| mask(cells, plan.covered(x))).collect();
     let arrays: u32 = cells.iter().fold(0, |set, &c| set | 1 << plan.array_of(c));
-    let all = mask(cells, Covered::each(0..plan.cells()));
     // "At the start latest and host are 0 and the card holds never"; flags "at
-    // the start set for the host only".
-    let start = World { current: [all, 0], flags: [arrays, 0] };
+    // the start set for the host only". Of scratch "both copies hold" never, "its
+    // flags are clear".
+    let filled = |&array: &usize| !plan.is_scratch(array);
+    let on_host = (0..plan.arrays())
+        .filter(filled)
+        .fold(0, |set, a| set | mask(cells, Covered::each(plan.cells_of(a))));
+    let flags = (0..plan.arrays()).filter(filled).fold(0, |set, array| set | 1 << array & arrays);
+    let start = World { current: [on_host, 0], flags: [flags, 0] };
     let start = ((0, Turns::default()), start);
     let mut seen = HashSet::from([start.clone()]);
     let mut queue = VecDeque::from([start]);
@@ -136,6 +141,8 @@ fn carry_on(record: &Record, cells: u64, arrays: u32, world: World) -> (World, u
 /// its array, one bit each.
 const STATUSES: usize = 16;
 const START: usize = 0b0101;
+/// Of scratch: nothing current, no flag.
+const SCRATCH_START: usize = 0;
 const NO_STOP: u16 = u16::MAX;
 
 /// For each status at entry the possible statuses at exit (one bit each) and
@@ -152,7 +159,8 @@ pub fn summary(plan: &Plan) -> Option<Stop> {
     assert!(plan.records.len() < NO_STOP as usize);
     let mut lowest: Option<Stop> = None;
     for cell in told_apart(plan) {
-        let record = Summary::of(plan, cell, 0..plan.records.len()).stop[START];
+        let start = if plan.is_scratch(plan.array_of(cell)) { SCRATCH_START } else { START };
+        let record = Summary::of(plan, cell, 0..plan.records.len()).stop[start];
         let record = (record != NO_STOP).then_some(record as usize);
         // Cells ascend, so an equal record keeps the lower cell.
         if let Some(record) = record.filter(|&r| lowest.is_none_or(|known| r < known.record)) {

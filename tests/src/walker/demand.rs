@@ -1,19 +1,26 @@
 //! Demand 3, clause by clause, on a declared plan that the judge accepts, its
 //! expansion held as records, and a list of choices of any length:
 //!
-//! - no record is stuck;
+//! - no record is stuck; "Plans with such an array are free from stops if their
+//!   expansion passes the check";
 //! - each read gets the stamp of the latest write of its cells;
-//! - at each moment each cell has the stamp of its latest write on some side;
+//! - at each moment each cell has the stamp of its latest write on some side, a
+//!   cell of scratch "from the cell's first write";
 //! - in a finished run each array moves, between two declared writes, exactly
 //!   once if a pass after the first, up to and including the second, declares R
-//!   or RW of it on the side opposite to the first, and otherwise never.
+//!   or RW of it on the side opposite to the first, and otherwise never; of
+//!   scratch "the first interval begins with its first mark", and before it the
+//!   array does not move.
 
+use super::check;
 use super::plan::*;
 
 /// What a run has shown, for the counts of a test.
 #[derive(Clone, Debug, Default, PartialEq, Eq)]
 pub struct Shown {
     pub finished: bool,
+    /// Stuck, in a plan with scratch whose expansion does not pass the check.
+    pub stopped: bool,
     pub passes: usize,
     pub reads: usize,
     pub writes: usize,
@@ -50,17 +57,20 @@ pub enum Breach {
 pub fn demand_3(declared: &Plan, expansion: &Plan, choices: &[u8]) -> Result<Shown, Breach> {
     let mut run = Run::start(expansion);
     run.every_cell_somewhere()?;
-    let finished = run.go(choices)?;
+    let ended = run.go(choices);
+    let stopped = matches!(ended, Err(Breach::Stuck { .. })) && may_stop(expansion);
+    let finished = if stopped { false } else { ended? };
     let calls = calls_reached(declared, choices);
-    let made = declarations_made(declared, &calls, &run.executed)?;
     let mut intervals = 0;
-    if finished {
-        for array in 0..declared.arrays() {
-            intervals += moves_as_due(array, &made)?;
+    if !stopped {
+        let made = declarations_made(declared, &calls, &run.executed)?;
+        for array in (0..declared.arrays()).filter(|_| finished) {
+            intervals += moves_as_due(array, declared.is_scratch(array), &made)?;
         }
     }
     Ok(Shown {
         finished,
+        stopped,
         passes: calls.len(),
         reads: run.reads,
         writes: run.history.len(),
@@ -68,6 +78,11 @@ pub fn demand_3(declared: &Plan, expansion: &Plan, choices: &[u8]) -> Result<Sho
         moved_cells: run.moved_cells,
         intervals,
     })
+}
+
+/// Scratch, and an expansion that does not pass the check.
+fn may_stop(expansion: &Plan) -> bool {
+    expansion.has_scratch() && check::summary(expansion).is_some()
 }
 
 // ---- The run of the expansion, stamps without limit ----
@@ -102,11 +117,13 @@ struct Run<'a> {
 impl<'a> Run<'a> {
     fn start(plan: &'a Plan) -> Run<'a> {
         let (cells, arrays) = (plan.cells(), plan.arrays());
+        let filled: Vec<bool> = (0..arrays).map(|array| !plan.is_scratch(array)).collect();
+        let on_host = (0..cells).map(|cell| filled[plan.array_of(cell)].then_some(0)).collect();
         Run {
             plan,
-            copies: [vec![Some(0); cells], vec![None; cells]],
+            copies: [on_host, vec![None; cells]],
             latest: vec![0; cells],
-            flags: [vec![true; arrays], vec![false; arrays]],
+            flags: [filled, vec![false; arrays]],
             history: Vec::new(),
             last_write: vec![0; cells],
             executed: Vec::new(),
@@ -210,6 +227,9 @@ impl<'a> Run<'a> {
     fn every_cell_somewhere(&self) -> Result<(), Breach> {
         for cell in 0..self.plan.cells() {
             let stamp = Some(self.last_write[cell]);
+            if stamp == Some(0) && self.plan.is_scratch(self.plan.array_of(cell)) {
+                continue;
+            }
             if self.copies[HOST][cell] != stamp && self.copies[CARD][cell] != stamp {
                 return Err(Breach::NowhereCurrent { moment: self.moment, cell });
             }
@@ -308,12 +328,19 @@ fn declarations_made(
 type Write = (Option<usize>, usize);
 
 /// Gives the number of intervals. The first one begins at the start, on the
-/// host; the last one ends with the run.
-fn moves_as_due(array: usize, made: &[Vec<Made>]) -> Result<usize, Breach> {
-    let mut writes: Vec<Write> = vec![(None, HOST)];
+/// host, of scratch "with its first mark"; the last one ends with the run.
+fn moves_as_due(array: usize, scratch: bool, made: &[Vec<Made>]) -> Result<usize, Breach> {
+    let mut writes: Vec<Write> = if scratch { vec![] } else { vec![(None, HOST)] };
     for (call, by_call) in made.iter().enumerate() {
         let here = by_call.iter().filter(|d| d.array == array && d.kind != R);
         writes.extend(here.map(|d| (Some(call), d.side)));
+    }
+    if scratch {
+        let end = writes.first().map_or(made.len(), |(first, _)| first.map_or(0, |call| call + 1));
+        let moved = made[..end].iter().flatten().filter(|d| d.array == array && d.moved).count();
+        if moved != 0 {
+            return Err(Breach::Moves { array, moved, due: 0 });
+        }
     }
     for (i, &(first, side)) in writes.iter().enumerate() {
         let from = first.map_or(0, |call| call + 1);

@@ -101,7 +101,7 @@ pub fn expansion_by(plan: &Plan, given: &dyn Fn(&Record) -> Vec<Record>) -> Plan
     let mut records = Vec::new();
     script(plan, 0..plan.bodies[0].count, given, &mut records);
     let body = Body { first: 0, count: records.len(), declarations: 0 };
-    Plan::new(FileKind::Plain, &plan.lengths(), vec![body], records)
+    plan.like(FileKind::Plain, vec![body], records)
 }
 
 fn script(plan: &Plan, part: Range<usize>, given: &dyn Fn(&Record) -> Vec<Record>, out: &mut Vec<Record>) {

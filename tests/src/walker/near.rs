@@ -33,6 +33,9 @@ pub struct Checker {
     pub keeps_entries: bool,
     /// What a step is taken for.
     pub stepping: Stepping,
+    /// What the host has of scratch at the start: a current copy, a flag.
+    pub scratch_current: bool,
+    pub scratch_flagged: bool,
 }
 
 /// What a checker or a judge takes a step for.
@@ -115,18 +118,23 @@ impl Checker {
         stops.into_iter().filter(|stop| stop.record == lowest.record).max()
     }
 
+    fn start(&self, plan: &Plan, cell: usize) -> BTreeSet<Status> {
+        let scratch = [self.scratch_current, false, self.scratch_flagged, false];
+        BTreeSet::from([if plan.is_scratch(plan.array_of(cell)) { scratch } else { START }])
+    }
+
     /// All records and cells at which some carried-on run stops.
     pub fn stops(&self, plan: &Plan) -> BTreeSet<Stop> {
         let mut seen = Seen::default();
         for cell in 0..plan.cells() {
-            self.block(plan, cell, 0..plan.records.len(), BTreeSet::from([START]), &mut seen);
+            self.block(plan, cell, 0..plan.records.len(), self.start(plan, cell), &mut seen);
         }
         seen.stops
     }
 
     /// The statuses in which a cell can be at the plan's end.
     pub fn exits(&self, plan: &Plan, cell: usize) -> BTreeSet<Status> {
-        self.block(plan, cell, 0..plan.records.len(), BTreeSet::from([START]), &mut Seen::default())
+        self.block(plan, cell, 0..plan.records.len(), self.start(plan, cell), &mut Seen::default())
     }
 
     fn block(
@@ -502,7 +510,7 @@ impl Runner {
 /// The same arrays, nothing to do: its run leaves the start.
 fn empty_like(plan: &Plan) -> Plan {
     let body = Body { first: 0, count: 0, declarations: 0 };
-    Plan::new(FileKind::Plain, &plan.lengths(), vec![body], vec![])
+    plan.like(FileKind::Plain, vec![body], vec![])
 }
 
 /// Cells of the needs for the host that stand first: none of them copies.

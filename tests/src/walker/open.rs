@@ -18,11 +18,12 @@ pub fn refuse<T>(number: u16, place: usize) -> Result<T, Refusal> {
 
 pub fn open(file: &[u8]) -> Result<Plan, Refusal> {
     let kind = header(file)?;
-    let lengths = array_entries(file)?;
+    let (lengths, scratch) = array_entries(file)?;
     let bodies = body_entries(file)?;
     tail(file, &bodies)?;
     let records = file[bodies_at(file)..file.len() - TAIL].chunks_exact(RECORD);
     let plan = Plan::new(kind, &lengths, bodies, records.map(Record::from_bytes).collect());
+    let plan = plan.with_scratch(scratch);
     for body in 0..plan.bodies.len() {
         Holder { plan: &plan, body }.arm(0..plan.bodies[body].count, 0, 1)?;
     }
@@ -61,22 +62,26 @@ fn bodies_at(file: &[u8]) -> usize {
     body_entries_at(file) + BODY_ENTRY * bodies(file)
 }
 
-/// Number 3 for the whole contents, then 4: "array length or their total".
-fn array_entries(file: &[u8]) -> Result<Vec<usize>, Refusal> {
+/// Number 3 for the whole contents, then 4: "array length or their total". "Number 4
+/// reads the length without that bit", which "marks scratch".
+fn array_entries(file: &[u8]) -> Result<(Vec<usize>, Vec<bool>), Refusal> {
     if file.len() < bodies_at(file) {
         return refuse(3, 0);
     }
     let mut total = 0;
     let entries = file[HEADER..body_entries_at(file)].chunks_exact(ARRAY_ENTRY);
     let mut lengths = Vec::new();
-    for (array, length) in entries.map(two_bytes).enumerate() {
+    let mut scratch = Vec::new();
+    for (array, entry) in entries.map(two_bytes).enumerate() {
+        let length = entry % SCRATCH_BIT;
         total += length;
         if !(1..=MAX_CELLS).contains(&length) || total > MAX_CELLS {
             return refuse(4, array);
         }
         lengths.push(length);
+        scratch.push(entry >= SCRATCH_BIT);
     }
-    Ok(lengths)
+    Ok((lengths, scratch))
 }
 
 /// 5: "fourth byte not zero, more declarations than records, declarations in

@@ -27,6 +27,8 @@ pub const MAX_RECORDS: usize = 1024;
 pub const MAX_CHOICES: usize = 65_536;
 /// "Q turns from 1 to 4,096", and the most that a product of counts may be.
 pub const MAX_TURNS: usize = 4096;
+/// "The highest bit of an array's length now marks scratch".
+pub const SCRATCH_BIT: usize = 0x8000;
 
 /// Bytes of the header, of an array's entry, of a body's entry, of a record,
 /// of the tail.
@@ -150,6 +152,8 @@ pub struct Plan {
     pub kind: FileKind,
     /// First cell of each array, and behind the last one the number of cells.
     starts: Vec<usize>,
+    /// Of each array whether it is scratch.
+    scratch: Vec<bool>,
     pub bodies: Vec<Body>,
     pub records: Vec<Record>,
 }
@@ -160,7 +164,19 @@ impl Plan {
         for length in lengths {
             starts.push(starts[starts.len() - 1] + length);
         }
-        Plan { kind, starts, bodies, records }
+        let scratch = vec![false; lengths.len()];
+        Plan { kind, starts, scratch, bodies, records }
+    }
+
+    /// The same with these of its arrays scratch.
+    pub fn with_scratch(self, scratch: Vec<bool>) -> Plan {
+        assert_eq!(scratch.len(), self.arrays());
+        Plan { scratch, ..self }
+    }
+
+    /// A plan with the same arrays.
+    pub fn like(&self, kind: FileKind, bodies: Vec<Body>, records: Vec<Record>) -> Plan {
+        Plan { kind, starts: self.starts.clone(), scratch: self.scratch.clone(), bodies, records }
     }
 
     pub fn arrays(&self) -> usize {
@@ -178,6 +194,15 @@ impl Plan {
     /// The cells of an array, numbered through all arrays.
     pub fn cells_of(&self, array: usize) -> Range<usize> {
         self.starts[array]..self.starts[array + 1]
+    }
+
+    /// Whether an array is scratch, one of the "Grids nobody has filled".
+    pub fn is_scratch(&self, array: usize) -> bool {
+        self.scratch[array]
+    }
+
+    pub fn has_scratch(&self) -> bool {
+        self.scratch.contains(&true)
     }
 
     /// The array that holds a cell.
@@ -241,8 +266,9 @@ impl Plan {
     /// The plan as a file with its check bytes.
     pub fn to_bytes(&self) -> Vec<u8> {
         let mut file = vec![self.kind.number(), self.arrays() as u8, self.bodies.len() as u8, 0];
-        for length in self.lengths() {
-            file.extend((length as u16).to_le_bytes());
+        for (length, &scratch) in self.lengths().iter().zip(&self.scratch) {
+            let bit = if scratch { SCRATCH_BIT } else { 0 };
+            file.extend(((length + bit) as u16).to_le_bytes());
         }
         for body in &self.bodies {
             file.extend((body.count as u16).to_le_bytes());

@@ -114,15 +114,20 @@ struct Machine<'a, 'b> {
 }
 
 impl<'a, 'b> Machine<'a, 'b> {
-    /// "It first writes the start into the plan's cells and the tally."
+    /// "It first writes the start into the plan's cells and the tally." Of scratch
+    /// "both copies hold" never, "its flags are clear, latest is 0".
     fn start(plan: &'a Plan, memories: &'a mut Memories<'b>, tally: &'a mut Tally) -> Machine<'a, 'b> {
         let cells = plan.cells();
         memories.sides[HOST][..cells].fill(0);
         memories.sides[CARD][..cells].fill(NEVER);
         memories.latest[..cells].fill(0);
         *tally = Tally::default();
-        let all = (u64::MAX >> (64 - plan.arrays())) as u32;
-        Machine { plan, memories, tally, flags: [all, 0] }
+        let mut on_host = (u64::MAX >> (64 - plan.arrays())) as u32;
+        for array in (0..plan.arrays()).filter(|&array| plan.is_scratch(array)) {
+            memories.sides[HOST][plan.cells_of(array)].fill(NEVER);
+            on_host &= !(1 << array);
+        }
+        Machine { plan, memories, tally, flags: [on_host, 0] }
     }
 
     /// Does a record, or changes nothing and gives its lowest unmet cell.

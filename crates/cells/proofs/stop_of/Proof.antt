@@ -1,8 +1,12 @@
 -- `stop_of` gives the lowest stop of a cell: no row is of its class yet, and the walk of all records from the start finds it.
 use mathlib.Core.Path.{refl}
 use native.Mathlib.Omega.{arith}
+use Rattle.model.specs.Sides.{is-scratch}
+use Rattle.model.proofs.Status.{at-start}
+use Rattle.reading.specs.Bytes.{layout-of}
 use Rattle.format.proofs.Walking.{opened-facts}
 use Rattle.format.proofs.Trees.{plain-walk}
+use Rattle.statuses.proofs.Statuses.{index-below}
 use Rattle.summary.proofs.Keeping.{exact-none}
 use Rattle.cells.proofs.Answers.{stop-is}
 use borrow.Author.Needs.{needs}
@@ -19,7 +23,9 @@ add-block : tie.Need-add-block
 add-block c = search needs
 
 only-requires : tie.Need-only-requires
-only-requires c κs = search needs
+only-requires c κs =
+    let s = c .before .before .before .before .before .before .before .before .before in
+    omega (arith, s .pre .7, index-below (at-start (is-scratch (layout-of (s .args .plan .now)) (s .args .array .0))))
 
 block-requires : tie.Need-block-requires
 block-requires c κs =
@@ -49,7 +55,7 @@ returns : tie.Need-returns
 returns c =
     let p = c .before .before .before .before .before .before .before .before .before .before .before .before .before .pre in
     let b = c .before .before .block in
-    (stop-is _ _ _ _ _ (b .result) (c .before .before .before .only .ensures) refl (rw (p .1) at (b .ensures)), b .ensures .exact .room, c .before .before .before .before .before .before .before .before .look-ahead .ensures .spare)
+    (stop-is _ _ _ _ _ _ _ (b .result) (p .2) (p .3) _ (p .7) (c .before .before .before .only .ensures) refl (rw (p .1) at (b .ensures)), b .ensures .exact .room, c .before .before .before .before .before .before .before .before .look-ahead .ensures .spare)
 
 pub stop-of-spec : {M : Type 1} → statement M
 stop-of-spec =

@@ -11,7 +11,7 @@ use Rattle.model.specs.Lists.{sum-before}
 use Rattle.model.specs.declared.Verdict.the-variants.{Accepted}
 use Rattle.model.specs.Sides.{span-of}
 use Rattle.model.specs.Rows.{answer-of, all-rows}
-use Rattle.reading.specs.Bytes.{table, length-at, layout-of, entry-at, lengths-of}
+use Rattle.reading.specs.Bytes.{table, layout-of, entry-at, lengths-of}
 use Rattle.contents.specs.Contents.{array-rows}
 use Rattle.model.proofs.Rows.{each-none, each-more}
 use Rattle.reading.proofs.Tables.{filled-first, filled-next, first-zero, all-cells}
@@ -33,9 +33,8 @@ abbrev μ-loop : tie.MeasureT-loop
 μ-loop plan arrays starts₀ cells₀ a₀ starts cells a = arrays - a
 
 -- what was read at array a
-entry : (c : tie.After-number-at Inv-loop μ-loop) → ArrayEntry (c .before .before .before .before .before .args .plan .now) (c .before .before .loop .a) (c .number-at .result) (c .before .before .loop .cells)
-unfolding length-at
-entry c = record { one = omega (arith, c .before .before .before .byte .ensures); size = c .number-at .ensures; before = c .before .before .loop .inv .1; low = c .before .before .loop .inv .2 }
+entry : (c : tie.After-length-at Inv-loop μ-loop) → ArrayEntry (c .before .before .before .before .before .args .plan .now) (c .before .before .loop .a) (c .length-at .result) (c .before .before .loop .cells)
+entry c = record { one = omega (arith, c .before .before .before .byte .ensures); size = c .length-at .ensures; before = c .before .before .loop .inv .1; low = c .before .before .loop .inv .2 }
 
 -- where the walk ends
 walked : (c : tie.After-entries-verdict Inv-loop μ-loop) → Walked (array-rows (c .before .before .before .before .before .args .plan .now)) (c .before .before .loop .a) (c .before .before .before .byte .result) (c .entries-verdict .result)
@@ -44,7 +43,7 @@ walked c =
     let v = c .entries-verdict .ensures in
     ⊎-elim
     (λ t. walk-ends _ _ _ _ (l .loop .inv .3) (l .loop .inv .0) (t .left) (v .1))
-    (λ t. walk-stops _ _ _ _ (l .loop .inv .3) 4 (t .0 .taken) (v .0) (array-stop _ _ _ _ (entry record { before = record { before = l; loop-test = t .0 }; number-at = t .1 }) (t .2 .taken)))
+    (λ t. walk-stops _ _ _ _ (l .loop .inv .3) 4 (t .0 .taken) (v .0) (array-stop _ _ _ _ (entry record { before = record { before = l; loop-test = t .0 }; length-at = t .1 }) (t .2 .taken)))
     (c .before .loop-test .came)
 
 byte-requires : tie.Need-byte-requires Inv-loop μ-loop
@@ -59,15 +58,9 @@ loop-holds c =
     let l = lengths-of (c .before .before .args .plan .now) in
     (search needs, sym (first-zero l), search needs, each-none _, search needs, filled-first (sum-before l) (first-zero l))
 
-mul-number-at : tie.Need-mul-number-at Inv-loop μ-loop
-mul-number-at c = search needs
-
-add-number-at : tie.Need-add-number-at Inv-loop μ-loop
-add-number-at c = search needs
-
-number-at-requires : tie.Need-number-at-requires Inv-loop μ-loop
+length-at-requires : tie.Need-length-at-requires Inv-loop μ-loop
 unfolding entry-at
-number-at-requires c κs = omega arith
+length-at-requires c κs = omega arith
 
 sub-if1 : tie.Need-sub-if1 Inv-loop μ-loop
 sub-if1 c = search needs
@@ -114,9 +107,7 @@ array-entries-spec =
     byte-requires
     cast-arrays
     loop-holds
-    mul-number-at
-    add-number-at
-    number-at-requires
+    length-at-requires
     sub-if1
     add-cells
     add-a

@@ -7,11 +7,12 @@ use native.Mathlib.Omega.{arith}
 use native.Mathlib.Nat.{zero-add}
 use lib.ListN.{length}
 use lib.Dec.{ltb, leb, eqb}
-use borrow.Author.Tests.{le-ltb, leb-true, eq-eqb}
+use borrow.Author.Tests.{le-ltb, leb-true, eqb-true, eq-eqb}
 use Rattle.model.specs.Lists.{sum}
 use Rattle.model.specs.declared.Verdict.the-variants.{Accepted}
 use Rattle.model.specs.Sides.{span-of, Layout, cell-count}
 use Rattle.model.proofs.Booleans.{and-out}
+use Rattle.model.proofs.Numbering.{array-ends}
 use Rattle.model.specs.Rows.{Row, row, answer-of, all-rows}
 use Rattle.reading.specs.Bytes.{array-count, length-at, first-record, bodies-at, between, lengths-of}
 use Rattle.reading.proofs.Tables.{sums-within}
@@ -22,7 +23,7 @@ use Rattle.format.specs.Opening.{open-rows, opening}
 use Rattle.files.specs.Files.{Body}
 use Rattle.files.specs.Bounds.{all-pass, arrays-fit}
 use Rattle.files.proofs.Files.Holding.{Along, none, more, at-place, each-so, both-along}
-use Rattle.files.proofs.Files.Places.{body-size, sizes, Placed, Laid}
+use Rattle.files.proofs.Files.Places.{body-size, sizes, ArraysTold, Placed, Laid}
 
 -- no row of the list holds
 abbrev pub Passes : List Row → Type 0
@@ -59,6 +60,24 @@ all-along : {A : Type 0} (test : A → Bool) (l : List A) (r : ℕ) → all-pass
 all-along test [] r e = none
 all-along test (x ∷ l) r e = let h = and-out (test x) (all-pass test l) e in more (h .0) (all-along test l (suc r) (h .1))
 
+-- the arrays of a file, part by part
+pub record ArraysFit (layout : Layout) : Type 0 where
+  pub some : between 1 32 (length (layout .lengths)) ≡ true
+  pub each : all-pass (between 1 4096) (layout .lengths) ≡ true
+  pub total : leb (cell-count layout) 4096 ≡ true
+  pub marked : length (layout .scratch) ≡ length (layout .lengths)
+
+module _ (layout : Layout) (fit : arrays-fit layout ≡ true) where
+  pub arrays-parts : ArraysFit layout
+  arrays-parts =
+      let (some, h) = and-out (between 1 32 (length (layout .lengths))) _ fit in
+      let (each, k) = and-out (all-pass (between 1 4096) (layout .lengths)) _ h in
+      let (total, marked) = and-out (leb (cell-count layout) 4096) _ k in
+      record { some = some; each = each; total = total; marked = eqb-true _ _ marked }
+
+  pub arrays-told : ArraysTold layout
+  arrays-told = record { short = λ a. omega (arith, array-ends layout a, leb-true (cell-count layout) 4096 (arrays-parts .total)); marked = arrays-parts .marked }
+
 -- "more declarations than records, declarations in body 0"
 pub record EntryFits (b : ℕ) (x : Body) : Type 0 where
   pub declared : x .declarations ≤ body-size x
@@ -92,13 +111,12 @@ module _ (f : List ℕ) (kind : ℕ) (layout : Layout) (bodies : List Body) (l :
   contents-passes : arrays-fit layout ≡ true → sum (sizes bodies) ≤ 1024 → Along EntryFits 0 bodies → Passes (contents-rows f)
   unfolding contents-rows
   contents-passes fit few entries =
-      let h = and-out (between 1 32 (length (layout .lengths))) (all-pass (between 1 4096) (layout .lengths) && leb (cell-count layout) 4096) fit in
-      let k = and-out (all-pass (between 1 4096) (layout .lengths)) (leb (cell-count layout) 4096) (h .1) in
-      let lengths = both-along (l .arrayed .held) (all-along (between 1 4096) (layout .lengths) 0 (k .0)) in
+      let k = arrays-parts layout fit in
+      let lengths = both-along (l .arrayed .held) (all-along (between 1 4096) (layout .lengths) 0 (k .each)) in
       let bodies-fit = both-along (l .placed) entries in
       passes-row _ _ _ _ (le-ltb (length f) (bodies-at f) (omega (arith, l .long)))
       (passes-append (all-rows (array-count f) (array-rows f)) _
-      (rw (l .arrayed .counted) (passes-along (layout .lengths) (array-rows f) (each-so (λ a n p. array-passes (k .1) a n (p .0) (p .1)) lengths)))
+      (rw (l .arrayed .counted) (passes-along (layout .lengths) (array-rows f) (each-so (λ a n p. array-passes (k .total) a n (p .0) (p .1)) lengths)))
       (rw (l .body-count-is) (passes-along bodies (entry-rows f) (each-so (λ b x p. body-passes few b x (p .0) (p .1)) bodies-fit))))
 
   tail-passes : Passes (tail-rows f)
@@ -109,8 +127,7 @@ module _ (f : List ℕ) (kind : ℕ) (layout : Layout) (bodies : List Body) (l :
       → sum (sizes bodies) ≤ 1024 → Along EntryFits 0 bodies → Along (λ b x. Passes (body-rows f b)) 0 bodies → opening f ≡ Accepted
   unfolding opening open-rows front-rows
   opens kinds fit some-bodies one few entries records =
-      let h = and-out (between 1 32 (length (layout .lengths))) (all-pass (between 1 4096) (layout .lengths) && leb (cell-count layout) 4096) fit in
       passes-append (front-rows f) _
-      (passes-append (header-rows f) _ (header-passes kinds (h .0) some-bodies one)
+      (passes-append (header-rows f) _ (header-passes kinds (arrays-parts layout fit .some) some-bodies one)
       (passes-append (contents-rows f) _ (contents-passes fit few entries) tail-passes))
       (rw (l .body-count-is) (passes-along bodies (body-rows f) records))

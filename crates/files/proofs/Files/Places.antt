@@ -1,23 +1,24 @@
 -- Where the parts of a plan's file stand: the readers of `Bytes` give back what `Files` wrote.
-use mathlib.Core.Path.{_≡_, refl, sym}
-use mathlib.Core.Bool.{true}
+use mathlib.Core.Path.{_≡_, refl, sym, ap, _∙_}
+use mathlib.Core.Bool.{true, false}
 use mathlib.Core.List.{List, [], _∷_, _++_, map}
-use Prim.Native.Nat.{ℕ, zero, suc, _+_, _*_, _-_, _/_, _%_, _≤_, _<_}
+use Prim.Native.Nat.{ℕ, zero, suc, _+_, _*_, _-_, _/_, _%_, _^_, _≤_, _<_}
 use native.Mathlib.Omega.{arith}
 use native.Mathlib.Numerals.{add-one, add-two, add-three, add-four, add-six}
 use native.Mathlib.Nat.{add-zero, zero-add, add-assoc}
 use lib.ListN.{length, getD, length-append, length-map, List·getD-map}
+use lib.Dec.{leb}
 use lib.Seq.{take-at, getD-append-seam, getD-append-add}
 use borrow.Author.Tests.{eq-eqb}
 use Rattle.model.specs.Lists.{sum-before, sum, chain}
-use Rattle.model.specs.Sides.{span-of, Layout}
+use Rattle.model.specs.Sides.{span-of, Layout, is-scratch}
 use Rattle.model.proofs.Booleans.{and-in}
 use Rattle.reading.specs.declared.Fields.{Fields}
-use Rattle.reading.specs.Bytes.{byte-at, u16-at, kind-of, array-count, body-count, length-at, layout-of, entry-at, records-in, declarations-in, sizes-of, first-record, record-count, bodies-at, fields-at, lengths-of}
-use Rattle.reading.proofs.Tables.{first-zero, first-more, cells-first, sums-within}
+use Rattle.reading.specs.Bytes.{byte-at, u16-at, table, kind-of, array-count, body-count, length-at, scratch-at, scratch-of, layout-of, entry-at, records-in, declarations-in, sizes-of, first-record, record-count, bodies-at, fields-at, lengths-of}
+use Rattle.reading.proofs.Tables.{length-table, getD-table, first-zero, first-more, cells-first, sums-within, length-again, scratch-again}
 use Rattle.sums.specs.Sums.{plain-sum, weighted-sum, check-bytes}
 use Rattle.frame.specs.Frame.{checks-fit}
-use Rattle.files.specs.Files.{u16-bytes, record-bytes, Body, entry-bytes, front, file}
+use Rattle.files.specs.Files.{u16-bytes, record-bytes, Body, entry-bytes, array-entry, front, file}
 use Rattle.files.proofs.Files.Holding.{Along, none, more, Holds, front-part, back-part, at-place, along-of, each-so, along-map, itself, joined-length, pieces, table-is}
 
 -- numbers of two bytes
@@ -35,9 +36,15 @@ lengths-length = joined-length u16-bytes 2 (λ n. refl)
 entries-length : (bodies : List Body) → length (chain entry-bytes bodies) ≡ 4 * length bodies
 entries-length = joined-length entry-bytes 4 (λ b. refl)
 
+abbrev pub array-entries : Layout → List ℕ
+array-entries layout = table (array-entry layout) (length (layout .lengths))
+
+arrays-length : (layout : Layout) → length (chain u16-bytes (array-entries layout)) ≡ 2 * length (layout .lengths)
+arrays-length layout = lengths-length (array-entries layout) ∙ rw (length-table (array-entry layout) (length (layout .lengths)))
+
 front-length : (kind : ℕ) (layout : Layout) (bodies : List Body) → length (front kind layout bodies) ≡ 4 + 2 * length (layout .lengths) + 4 * length bodies
 front-length kind layout bodies =
-    omega (arith, length-append (chain u16-bytes (layout .lengths)) (chain entry-bytes bodies), lengths-length (layout .lengths), entries-length bodies)
+    omega (arith, length-append (chain u16-bytes (array-entries layout)) (chain entry-bytes bodies), arrays-length layout, entries-length bodies)
 
 abbrev pub body-size : Body → ℕ
 body-size b = length (b .records)
@@ -61,13 +68,13 @@ record Parts (f : List ℕ) (kind : ℕ) (layout : Layout) (bodies : List Body) 
   array-count-is : array-count f ≡ length (layout .lengths)
   body-count-is : body-count f ≡ length bodies
   zero-is : byte-at f 3 ≡ 0
-  lengths : Holds (byte-at f) 4 (chain u16-bytes (layout .lengths))
+  lengths : Holds (byte-at f) 4 (chain u16-bytes (array-entries layout))
   entries : Holds (byte-at f) (4 + 2 * length (layout .lengths)) (chain entry-bytes bodies)
   records : Holds (byte-at f) (4 + 2 * length (layout .lengths) + 4 * length bodies) (chain body-bytes bodies)
 
 parts : (f : List ℕ) (kind : ℕ) (layout : Layout) (bodies : List Body) → Holds (byte-at f) 0 (front kind layout bodies ++ chain body-bytes bodies) → Parts f kind layout bodies
 parts f kind layout bodies (more e0 (more e1 (more e2 (more e3 h)))) =
-    let lengths = chain u16-bytes (layout .lengths) in
+    let lengths = chain u16-bytes (array-entries layout) in
     let entries = chain entry-bytes bodies in
     let contents = front-part (lengths ++ entries) (chain body-bytes bodies) h in
     let start : 4 + length (lengths ++ entries) ≡ 4 + 2 * length (layout .lengths) + 4 * length bodies = omega (arith, front-length kind layout bodies) in
@@ -77,7 +84,7 @@ parts f kind layout bodies (more e0 (more e1 (more e2 (more e3 h)))) =
       body-count-is = e2;
       zero-is = e3;
       lengths = front-part lengths entries contents;
-      entries = rw (lengths-length (layout .lengths)) at (back-part lengths contents);
+      entries = rw (arrays-length layout) at (back-part lengths contents);
       records = rw start at (back-part (lengths ++ entries) h);
     }
 
@@ -110,10 +117,46 @@ module _ (f : List ℕ) where
 abbrev no-body : Body
 no-body = record { declarations = 0; records = [] }
 
+-- arrays that their entries can tell of: each length leaves the highest bit free, and each array is scratch or not
+pub record ArraysTold (layout : Layout) : Type 0 where
+  pub short : (a : ℕ) → getD (layout .lengths) a 0 < 2 ^ 15
+  pub marked : length (layout .scratch) ≡ length (layout .lengths)
+
 module _ (f : List ℕ) (kind : ℕ) (layout : Layout) (bodies : List Body) (p : Parts f kind layout bodies) where
-  lengths-held : Holds (length-at f) 0 (layout .lengths)
-  unfolding length-at
-  lengths-held = each-so (λ a n h. u16-is f (4 + 2 * a) n h) (pieces u16-bytes 2 (λ n. refl) (byte-at f) 4 (layout .lengths) 0 (p .lengths))
+  words-held : Holds (λ a. u16-at f (4 + 2 * a)) 0 (array-entries layout)
+  words-held = each-so (λ a n h. u16-is f (4 + 2 * a) n h) (pieces u16-bytes 2 (λ n. refl) (byte-at f) 4 (array-entries layout) 0 (p .lengths))
+
+  word-is : (a : ℕ) → a < length (layout .lengths) → u16-at f (4 + 2 * a) ≡ array-entry layout a
+  word-is a h =
+      let n = length (layout .lengths) in
+      let e : u16-at f (4 + 2 * (0 + a)) ≡ getD (array-entries layout) a 0 = at-place words-held 0 a (rw (length-table (array-entry layout) n) h) in
+      (rw zero-add at e) ∙ getD-table (array-entry layout) n a 0 h
+
+  module _ (told : ArraysTold layout) where
+    length-is : (a : ℕ) → a < length (layout .lengths) → length-at f a ≡ getD (layout .lengths) a 0
+    unfolding length-at
+    length-is a h = ap (λ n. n % 2 ^ 15) (word-is a h) ∙ length-again (getD (layout .lengths) a 0) (is-scratch layout a) (told .short a)
+
+    mark-is : (a : ℕ) → a < length (layout .lengths) → scratch-at f a ≡ is-scratch layout a
+    unfolding scratch-at
+    mark-is a h = ap (leb (2 ^ 15)) (word-is a h) ∙ scratch-again (getD (layout .lengths) a 0) (is-scratch layout a) (told .short a)
+
+    lengths-held : Holds (length-at f) 0 (layout .lengths)
+    lengths-held = along-of (layout .lengths) 0 0 (λ a h. rw zero-add (length-is a h))
+
+    marks-held : Holds (scratch-at f) 0 (layout .scratch)
+    marks-held = along-of (layout .scratch) 0 false (λ a h. rw zero-add (mark-is a (rw (told .marked) at h)))
+
+    lengths-are : lengths-of f ≡ layout .lengths
+    unfolding lengths-of
+    lengths-are = rw (p .array-count-is) (table-is (length-at f) (layout .lengths) lengths-held)
+
+    marks-are : scratch-of f ≡ layout .scratch
+    unfolding scratch-of
+    marks-are = rw (p .array-count-is, ← told .marked) (table-is (scratch-at f) (layout .scratch) marks-held)
+
+    arrays-are : layout-of f ≡ layout
+    arrays-are = λ i. record { lengths = lengths-are i; scratch = marks-are i }
 
   entries-held : Along (Entry f) 0 bodies
   unfolding entry-at
@@ -124,13 +167,6 @@ module _ (f : List ℕ) (kind : ℕ) (layout : Layout) (bodies : List Body) (p :
   bodies-start : bodies-at f ≡ 4 + 2 * length (layout .lengths) + 4 * length bodies
   unfolding entry-at
   bodies-start = rw (p .array-count-is, p .body-count-is)
-
-  lengths-are : lengths-of f ≡ layout .lengths
-  unfolding lengths-of
-  lengths-are = rw (p .array-count-is) (table-is (length-at f) (layout .lengths) lengths-held)
-
-  arrays-are : layout-of f ≡ layout
-  arrays-are = λ i. record { lengths = lengths-are i }
 
   sizes-are : sizes-of f ≡ sizes bodies
   unfolding sizes-of
@@ -209,6 +245,16 @@ module _ (kind : ℕ) (layout : Layout) (bodies : List Body) where
   unfolding file
   checked = checks-of summed
 
+  -- the parts of it, and how long it is
+  all-parts : Parts f kind layout bodies
+  all-parts = parts f kind layout bodies (front-part summed (check-bytes summed) whole)
+
+  pub file-kind : kind-of (file kind layout bodies) ≡ kind
+  file-kind = all-parts .kind-is
+
+  pub whole-length : length (file kind layout bodies) ≡ 4 + 2 * length (layout .lengths) + 4 * length bodies + 8 * sum (sizes bodies) + 2
+  whole-length = omega (arith, file-length, summed-length)
+
   placed : Parts f kind layout bodies → Along (Placed f) 0 bodies
   placed p = along-of bodies 0 no-body (λ b h. rw zero-add (at-body b h))
     where
@@ -222,17 +268,17 @@ module _ (kind : ℕ) (layout : Layout) (bodies : List Body) where
             held = rw sizes-is (rw zero-add at (bodies-held f kind layout bodies p bodies 0 b start h));
           }
 
-  pub laid : Laid f kind layout bodies
-  laid =
-      let p = parts f kind layout bodies (front-part summed (check-bytes summed) whole) in
+  pub laid : ArraysTold layout → Laid f kind layout bodies
+  laid told =
+      let p = all-parts in
       let sizes-is : sizes-of f ≡ sizes bodies = sizes-are f kind layout bodies p in
       let count : record-count f ≡ sum (sizes bodies) = rw (sizes-is, p .body-count-is, ← length-map bodies body-size) (sym (cells-first (sizes bodies))) in
       record {
         kind-is = p .kind-is;
-        arrayed = record { counted = p .array-count-is; held = lengths-held f kind layout bodies p };
+        arrayed = record { counted = p .array-count-is; held = lengths-held f kind layout bodies p told };
         body-count-is = p .body-count-is;
         zero-is = p .zero-is;
-        arrays-are = arrays-are f kind layout bodies p;
+        arrays-are = arrays-are f kind layout bodies p told;
         start-is = first-zero (sizes-of f);
         count-is = count;
         within = λ b. rw sizes-is (sums-within (sizes bodies) b);

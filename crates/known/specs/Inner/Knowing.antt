@@ -15,9 +15,9 @@ use Rattle.known.specs.declared.Known.{Known}
 abbrev pub known-in : Bool → Known → ℕ
 known-in on-card k = cond on-card (k .card) (k .host)
 
--- at the start: every array on the host, none on the card
+-- at the start: the arrays that are flagged on the host, none on the card
 abbrev pub at-start : ℕ → Known
-at-start arrays = record { host = mask arrays (λ a. true); card = 0 }
+at-start flags = record { host = flags; card = 0 }
 
 -- the cells of the arrays in a set are current
 pub record Sound (layout : Layout) (known : ℕ) (copies latest : List ℕ) : Type 0 where

@@ -1,7 +1,6 @@
 -- `arrays`: each array in turn. The measure is the number of arrays left.
 use Prim.Native.Nat.{_≤_, _-_}
-use native.Mathlib.Omega.{arith}
-use Rattle.listing.proofs.Found.{Entry, array-at}
+use Rattle.listing.proofs.Found.{Entry, array-at, array-inside}
 use borrow.Author.Needs.{needs}
 use Rattle.listing.proofs.arrays.Statement.{statement}
 use Rattle.listing.proofs.arrays.Tie as tie
@@ -13,16 +12,22 @@ abbrev μ-loop : tie.MeasureT-loop
 μ-loop page₀ at plan arrays starts waiting₀ a₀ page waiting a = arrays - a
 
 -- entry a of the arrays
-entry : (c : tie.After-part-line-arg Inv-loop μ-loop) → Entry (c .before .before .before .before .before .before .args .o .«array_starts») (c .before .before .loop .a)
+entry : (c : tie.After-part-line-arg Inv-loop μ-loop) → Entry (c .before .before .before .before .before .before .before .before .args .o .«array_starts») (c .before .before .before .before .loop .a)
 entry c =
-    let w = c .before .before .before .before .before .before .pre in
-    array-at _ _ (w .0) (w .1) _ (c .before .loop-test .taken)
+    let w = c .before .before .before .before .before .before .before .before .pre in
+    array-at _ _ (w .0) (w .1) _ (c .before .before .before .loop-test .taken)
 
 cast-arrays : tie.Need-cast-arrays Inv-loop μ-loop
 cast-arrays c = search needs
 
 loop-holds : tie.Need-loop-holds Inv-loop μ-loop
 loop-holds c = search needs
+
+scratch-at-requires : tie.Need-scratch-at-requires Inv-loop μ-loop
+scratch-at-requires c κs = let w = c .before .before .before .before .before .pre in array-inside _ _ (w .0) (w .1) _ (c .loop-test .taken)
+
+array-part-requires : tie.Need-array-part-requires Inv-loop μ-loop
+array-part-requires c κs = search needs
 
 cast-part-line : tie.Need-cast-part-line Inv-loop μ-loop
 cast-part-line c = let n = entry c in search needs
@@ -43,7 +48,7 @@ array-read-part-line-2 : tie.Need-array-read-part-line-2 Inv-loop μ-loop
 array-read-part-line-2 c = let n = entry c in search needs
 
 part-line-requires : tie.Need-part-line-requires Inv-loop μ-loop
-part-line-requires c κs = (omega arith, entry c .rises)
+part-line-requires c κs = (c .before .array-part .ensures, entry c .rises)
 
 add-a : tie.Need-add-a Inv-loop μ-loop
 add-a c = search needs
@@ -65,6 +70,8 @@ arrays-spec =
     μ-loop
     cast-arrays
     loop-holds
+    scratch-at-requires
+    array-part-requires
     cast-part-line
     mul-part-line
     array-read-part-line

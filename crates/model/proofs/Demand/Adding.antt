@@ -58,9 +58,9 @@ module _ (plan : DeclaredPlan) (cs : List Bool) (ok : Accepts plan) where
   moved-whole begins = refl
   moved-whole (calls h) = moved-whole h
   moved-whole (enters h) = moved-whole h
-  moved-whole (needs {s = s} {a} {n = n} h) = one-more (whole-of need s a) (n .state) (n .history) (moved-whole h)
+  moved-whole (needs {s = s} {a} {n = n} h u) = one-more (whole-of need s a) (n .state) (n .history) (moved-whole h)
   moved-whole (marks {s = s} {a} {n = n} h) = one-more (whole-of mark s a) (n .state) (n .history) (moved-whole h)
-  moved-whole (needs-first {s = s} {a} {n = n} h) = one-more (whole-of need s a) (n .state) (n .history) (moved-whole h)
+  moved-whole (needs-first {s = s} {a} {n = n} h u) = one-more (whole-of need s a) (n .state) (n .history) (moved-whole h)
   moved-whole (marks-then {s = s} {a} {n = n} h) = one-more (whole-of mark s a) (n .state) (n .history) (moved-whole h)
   moved-whole (acts {p = p} {x = x} {n = n} h) =
       let permitted = permitted-now x (judged plan cs ok h) in

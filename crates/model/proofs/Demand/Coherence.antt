@@ -1,4 +1,4 @@
--- One cell through the stages of a run: it is current on some side, a side with a set flag is current or about to be written,
+-- One cell that is not scratch through the stages of a run: a side with a set flag is current or about to be written, there is one,
 -- and what its pass declares of its array holds.
 use Prim.Native.Nat.{ℕ, suc, _<_}
 use mathlib.Core.Path.{_≡_, refl, sym, _∙_}
@@ -8,7 +8,7 @@ use mathlib.Core.Bool.{Bool, true, false, cond, and-false, true≢false, false�
 use lib.Dec.{eqb}
 use borrow.Author.Tests.{eqb-true, eq-eqb}
 use Rattle.model.specs.Lists.{any}
-use Rattle.model.specs.Sides.{Side, host, card, other, same-side, Stamp, at, Layout, cell-count}
+use Rattle.model.specs.Sides.{Side, host, card, other, same-side, Stamp, at, Layout, cell-count, scratch-cell}
 use Rattle.model.specs.Records.{Verb, read, write, copy, need, mark, Action, whole-of, covers}
 use Rattle.model.specs.Effects.{Stamps, Flags, State, start, Deed, nothing, comes-to, does, effect}
 use Rattle.model.specs.Blocks.{Block, act}
@@ -16,7 +16,7 @@ use Rattle.model.specs.Judging.{Mode, R, W, RW, R-or-RW, W-or-RW, Declar
 use Rattle.model.specs.Inner.Declared.{declares}
 use Rattle.model.specs.Inner.Holders.{array-of}
 use Rattle.model.proofs.Needs.{flag-set, flag-clear}
-use Rattle.model.proofs.Numbering.{own-span, in-own, covers-array, covers-whole}
+use Rattle.model.proofs.Numbering.{own-span, in-own, scratch-own, covers-array, covers-whole}
 use Rattle.model.proofs.Booleans.{false-of, eqb-swap, is-same, is-true, is-other, same-or-other}
 use Rattle.model.proofs.Stamps.{as-verb}
 use Rattle.model.proofs.Written.{always-written}
@@ -39,7 +39,6 @@ FlagsCurrent v = (t : Side) → v .flag t ≡ true → Current v t
 -- of a cell of array a, in a pass that declares ds. `pending` says on which side every way through what is left of the pass writes the cell,
 -- `undeclared` whether the pass has still to declare the array
 pub record Coherent (ds : List Declaration) (a : ℕ) (pending : Side → Bool) (undeclared : Bool) (v : CellState) : Type 0 where
-  pub current : (s : Side) × Current v s
   pub flagged : (s : Side) × (v .flag s ≡ true)
   set-flags : (t : Side) → v .flag t ≡ true → Current v t ⊎ (pending t ≡ true)
   pub flags-current : undeclared ≡ true → FlagsCurrent v
@@ -49,7 +48,6 @@ pub record Coherent (ds : List Declaration) (a : ℕ) (pending : Side → Bool) 
 with-pending : {ds : List Declaration} {a : ℕ} {f g : Side → Bool} {u : Bool} {v : CellState} →
     ((t : Side) → f t ≡ true → g t ≡ true) → Coherent ds a f u v → Coherent ds a g u v
 with-pending {f = f} {g} {v = v} m k = record {
-  current = k .current;
   flagged = k .flagged;
   set-flags = λ t e. go t (k .set-flags t e);
   flags-current = k .flags-current;
@@ -87,7 +85,6 @@ after-write s k v = record { held = λ t. cond (same-side t s) (at k) (v .held t
 write-coherent : {ds : List Declaration} {a : ℕ} {f g : Side → Bool} {v : CellState} (s : Side) (k : ℕ) →
     declares W-or-RW s a ds ≡ true → Coherent ds a f false v → Coherent ds a g false (after-write s k v)
 write-coherent {v = v} s k e c = record {
-  current = (s, on-side);
   flagged = c .flagged;
   set-flags = λ t f. inl (if-flagged t f (same-or-other s t));
   flags-current = λ u. absurd (false≢true u);
@@ -199,10 +196,9 @@ module _ (layout : Layout) (c : ℕ) where
 
     -- of the cell's own array, once it is made
     made-coherent : (m : Mode) (σ : State) → own ≡ a → Judged layout p (declaration m s a ∷ ds) b →
-        (t : Side) × Current (at-cell σ) t → at-cell σ .flag s ≡ true → ((t : Side) → at-cell σ .flag t ≡ true → Current (at-cell σ) t ⊎ (always-writes layout t c b ≡ true)) →
+        at-cell σ .flag s ≡ true → ((t : Side) → at-cell σ .flag t ≡ true → Current (at-cell σ) t ⊎ (always-writes layout t c b ≡ true)) →
         (R-or-RW m ≡ true → Current (at-cell σ) s) → (W-or-RW m ≡ true → at-cell σ .flag (other s) ≡ false) → CoherentIn p b ds σ
-    made-coherent m σ q j now set f r w = record {
-      current = now;
+    made-coherent m σ q j set f r w = record {
       flagged = (s, set);
       set-flags = f;
       flags-current = λ u. absurd (true≢false (sym u ∙ rw q (once-first (declaration m s a) ds (j .once))));
@@ -233,7 +229,7 @@ module _ (layout : Layout) (c : ℕ) where
         go (inl q) =
             let g = needed i R σ k q in
             let now = g .flags-current s (g .flag-set) in
-            made-coherent R (effect layout (whole-of need s a) σ) q j (s, now) (g .flag-set)
+            made-coherent R (effect layout (whole-of need s a) σ) q j (g .flag-set)
             (λ t f. inl (g .flags-current t f)) (λ r. now) (λ w. absurd (false≢true w))
         go (inr e) = other-coherent R σ (effect layout (whole-of need s a) σ) e (other-same (whole-of need s a) σ e) k
 
@@ -246,7 +242,6 @@ module _ (layout : Layout) (c : ℕ) where
             let u = undeclared RW q in
             let g = needed i RW σ k q in
             record {
-              current = (s, g .flags-current s (g .flag-set));
               flagged = (s, g .flag-set);
               set-flags = λ t f. inl (g .flags-current t f);
               flags-current = λ e. g .flags-current;
@@ -272,7 +267,7 @@ module _ (layout : Layout) (c : ℕ) where
         if-flagged q t e = now t (rw (is-true t s e) (on-side q))
 
         go : (own ≡ a) ⊎ (eqb own a ≡ false) → CoherentIn p b ds (effect layout (whole-of mark s a) σ)
-        go (inl q) = made-coherent m (effect layout (whole-of mark s a) σ) q j (k .current .0, marked s a σ (k .current .0) (k .current .1)) (flags q s ∙ is-same s)
+        go (inl q) = made-coherent m (effect layout (whole-of mark s a) σ) q j (flags q s ∙ is-same s)
             (λ t f. if-flagged q t (sym (flags q t) ∙ f)) (λ g. marked s a σ s (r q g)) (λ w. flags q (other s) ∙ is-other s)
         go (inr e) = other-coherent m σ (effect layout (whole-of mark s a) σ) e (other-same (whole-of mark s a) σ e) k
 
@@ -295,7 +290,6 @@ module _ (layout : Layout) (c : ℕ) where
   -- from the end of one pass to the call of the next: nothing is pending
   call-coherent : (p q : Pass) (σ : State) → CoherentIn p Block.done [] σ → CoherentIn q (q .body) (q .declarations) σ
   call-coherent p q σ k = record {
-    current = k .current;
     flagged = k .flagged;
     set-flags = λ t f. inl (now t (k .set-flags t f));
     flags-current = λ u t f. now t (k .set-flags t f);
@@ -307,11 +301,16 @@ module _ (layout : Layout) (c : ℕ) where
       now t (inl e) = e
       now t (inr e) = absurd (false≢true e)
 
-  start-current : FlagsCurrent (at-cell (start layout))
-  start-current host e = refl
-  start-current card e = absurd (false≢true e)
+  -- a cell that is not scratch starts current on the host, and its array flagged there
+  module _ (inside : c < cell-count layout) (filled : scratch-cell layout c ≡ false) where
+    start-flag : at-cell (start layout) .flag host ≡ true
+    start-flag = rw (← scratch-own layout c inside, filled)
 
-module _ (plan : DeclaredPlan) (cs : List Bool) (ok : Accepts plan) (c : ℕ) (inside : c < cell-count (plan .layout)) where
+    start-current : FlagsCurrent (at-cell (start layout))
+    start-current host e = rw filled
+    start-current card e = absurd (false≢true e)
+
+module _ (plan : DeclaredPlan) (cs : List Bool) (ok : Accepts plan) (c : ℕ) (inside : c < cell-count (plan .layout)) (filled : scratch-cell (plan .layout) c ≡ false) where
   abbrev layout : Layout
   layout = plan .layout
 
@@ -323,21 +322,20 @@ module _ (plan : DeclaredPlan) (cs : List Bool) (ok : Accepts plan) (c : ℕ) (i
   pub coherent : {k : Stage} {ch : List Bool} {n : Progress} → Stages plan cs k ch n →
       CoherentIn (plan .layout) c (pass-at k) (body-left k) (ahead k) (n .state)
   coherent begins = record {
-    current = (host, refl);
-    flagged = (host, refl);
-    set-flags = λ t f. inl (start-current layout c t f);
-    flags-current = λ u. start-current layout c;
+    flagged = (host, start-flag layout c inside filled);
+    set-flags = λ t f. inl (start-current layout c inside filled t f);
+    flags-current = λ u. start-current layout c inside filled;
     readable = λ u s e. absurd (false≢true e);
     writable = λ u s e. absurd (false≢true e);
   }
   coherent (calls {p = p} {b} {n = n} h) = call-coherent layout c p (pass-of (plan .passes) b) (n .state) (coherent h)
   coherent (enters h) = coherent h
-  coherent (needs {p = p} {s} {a} {ds} {n = n} h) = need-coherent layout c p (p .body) s a ds inside (n .state) (judged plan cs ok h) (coherent h)
+  coherent (needs {p = p} {s} {a} {ds} {n = n} h u) = need-coherent layout c p (p .body) s a ds inside (n .state) (judged plan cs ok h) (coherent h)
   coherent (marks {p = p} {s} {a} {ds} {n = n} h) =
       let j = judged plan cs ok h in
       mark-coherent layout c p (p .body) s a ds W (n .state) j (λ q. inr (pending j q)) (λ q r. absurd (false≢true r)) (coherent h)
-  coherent (needs-first {p = p} {s} {a} {ds} {n = n} h) = need-first-coherent layout c p (p .body) s a ds inside (n .state) (coherent h)
-  coherent (marks-then (needs-first {p = p} {s} {a} {ds} {n = n} h)) =
+  coherent (needs-first {p = p} {s} {a} {ds} {n = n} h u) = need-first-coherent layout c p (p .body) s a ds inside (n .state) (coherent h)
+  coherent (marks-then (needs-first {p = p} {s} {a} {ds} {n = n} h u)) =
       let k = coherent h in
       let σ = effect layout (whole-of need s a) (n .state) in
       let now : array-of layout c ≡ a → Current (at-cell layout c σ) s = λ q.

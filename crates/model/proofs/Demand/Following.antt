@@ -1,4 +1,4 @@
--- The run of an accepted plan's expansion goes from stage to stage, and no record of it is stuck.
+-- The run of an accepted plan's expansion goes from stage to stage, and without scratch no record of it is stuck.
 use Prim.Native.Nat.{ℕ, zero, suc, _<_}
 use mathlib.Core.Path.{_≡_, refl, ap, sym, _∙_, subst}
 use mathlib.Core.Logic.{_⊎_, inl, inr}
@@ -8,7 +8,7 @@ use mathlib.Core.Bool.{Bool, true, false, cond, not, _||_, or-true, false≢true
 use native.Mathlib.Omega.{arith}
 use lib.Dec.{eqb}
 use borrow.Author.Tests.{eq-eqb}
-use Rattle.model.specs.Sides.{Side, other, Layout, cell-count}
+use Rattle.model.specs.Sides.{Side, other, Layout, cell-count, has-scratch}
 use Rattle.model.specs.Records.{Verb, read, write, copy, need, mark, Action, whole-of, covers}
 use Rattle.model.specs.Effects.{Flags, State, current, Deed, needs as needs-cell, met, effect}
 use Rattle.model.specs.Blocks.{Block, act, branch, loop, fixed, _then_}
@@ -19,13 +19,13 @@ use Rattle.model.specs.Inner.Declared.{no-pass, declaration, declared}
 use Rattle.model.specs.Inner.Holders.{array-of}
 use Rattle.model.proofs.Needs.{flag-set, flag-clear}
 use Rattle.model.proofs.Runs.{config, event}
-use Rattle.model.proofs.Numbering.{covers-array}
+use Rattle.model.proofs.Numbering.{scratch-own, none-scratch, covers-array}
 use Rattle.model.proofs.Stamps.{as-verb}
 use Rattle.model.proofs.Unmet.{none-unmet}
 use Rattle.model.proofs.Demand.Blocks.{then-assoc, expand-then}
 use Rattle.model.proofs.Demand.Declarations.{barred}
 use Rattle.model.proofs.Demand.Numbers.{unnumbered, unnumbered-same, unnumbered-events, unnumbered-config, unnumbered-step, step-unnumbered}
-use Rattle.model.proofs.Demand.Stages.{Did, Stage, in-body, declaring, marking, left-of, Progress, calling, Stages, begins, calls, enters, needs, marks, needs-first, marks-then, acts, branches, loops, turns, branches0, loops0, turns0, judged, permitted-now}
+use Rattle.model.proofs.Demand.Stages.{Did, Stage, in-body, declaring, marking, pass-at, ahead, body-left, left-of, Progress, calling, Stages, begins, calls, enters, needs, marks, needs-first, marks-then, acts, branches, loops, turns, branches0, loops0, turns0, judged, permitted-now}
 use Rattle.model.proofs.Demand.Coherence.{Current, opposite, at-cell, own-or-other, not-covered, CoherentIn, undeclared, coherent}
 
 -- what a record of an accepted plan needs of a cell is there
@@ -71,10 +71,10 @@ module _ (plan : DeclaredPlan) (cs : List Bool) where
   -- a configuration without record numbers that stands at a stage
   pub record Follows (k : Config) : Type 0 where
     stage : Stage
-    pub made : List Did
-    pub called : List Pass
+    made : List Did
+    called : List Pass
     left : k .left ≡ unnumbered (left-of (plan .passes) stage)
-    pub stages : Stages plan cs stage (k .choices) (record { state = k .state; history = k .history; made = made; called = called })
+    stages : Stages plan cs stage (k .choices) (record { state = k .state; history = k .history; made = made; called = called })
 
   -- the last stage
   pub record Finished (choices : List Bool) (history : List Event) : Type 0 where
@@ -84,11 +84,11 @@ module _ (plan : DeclaredPlan) (cs : List Bool) where
     pub called : List Pass
     pub stages : Stages plan cs (in-body pass Block.done Block.done) choices (record { state = state; history = history; made = made; called = called })
 
-  -- a step that leads to a stage, or ends unstuck
+  -- a step that leads to a stage, or ends; without scratch it ends unstuck
   abbrev pub Continues : List Bool → List Event → Step → Type 0
   Continues ch l (next k) = Follows k
   Continues ch l (ends finished) = Finished ch l
-  Continues ch l (ends (stopped r c)) = ⊥
+  Continues ch l (ends (stopped r c)) = has-scratch (plan .layout) ≡ false → ⊥
   Continues ch l (ends (out-of-choices r)) = Unit {0}
 
   -- whatever numbers the records executed so far have
@@ -104,14 +104,15 @@ module _ (plan : DeclaredPlan) (cs : List Bool) where
   at-next {k} {n} b ch e h l q = subst (λ history. Follows (config (unnumbered b) ch (n .state) history)) (sym q) (at-stage b ch e h)
 
   act-next : (r : ℕ) (x : Action) (b : Block Action) (ch : List Bool) (n : Progress) →
-      ((c : ℕ) → c < cell-count (plan .layout) → met (plan .layout) x (n .state) c ≡ true) →
-      Follows (config (unnumbered b) ch (effect (plan .layout) x (n .state)) (event 0 x (n .state) ∷ n .history)) → ContinuesFrom (act r x b) ch n
-  act-next r x b ch n f k l q = go (lowest-unmet (plan .layout) x (n .state)) (none-unmet (plan .layout) x (n .state) f)
+      (has-scratch (plan .layout) ≡ false → (c : ℕ) → c < cell-count (plan .layout) → met (plan .layout) x (n .state) c ≡ true) →
+      (lowest-unmet (plan .layout) x (n .state) ≡ none → Follows (config (unnumbered b) ch (effect (plan .layout) x (n .state)) (event 0 x (n .state) ∷ n .history))) →
+      ContinuesFrom (act r x b) ch n
+  act-next r x b ch n f k l q = go (lowest-unmet (plan .layout) x (n .state)) refl
     where
-      go : (o : Option ℕ) → o ≡ none →
+      go : (o : Option ℕ) → lowest-unmet (plan .layout) x (n .state) ≡ o →
           Continues ch (n .history) (unnumbered-step (stop-or r o (step carried-on (plan .layout) (config (act r x b) ch (n .state) l))))
-      go none u = subst (λ history. Follows (config (unnumbered b) ch (effect (plan .layout) x (n .state)) (event 0 x (n .state) ∷ history))) (sym q) k
-      go (some c) u = let z : _≡_ {A = ℕ} 0 1 = cc in absurd (omega arith)
+      go none u = subst (λ history. Follows (config (unnumbered b) ch (effect (plan .layout) x (n .state)) (event 0 x (n .state) ∷ history))) (sym q) (k u)
+      go (some c) u = λ filled. let e = none-unmet (plan .layout) x (n .state) (f filled) in let z : _≡_ {A = ℕ} 0 1 = cc in omega arith
 
   module _ (ok : Accepts plan) where
     abbrev layout : Layout
@@ -119,6 +120,11 @@ module _ (plan : DeclaredPlan) (cs : List Bool) where
 
     abbrev passes : List Pass
     passes = plan .passes
+
+    -- without scratch
+    filled-coherent : {k : Stage} {ch : List Bool} {n : Progress} → Stages plan cs k ch n → has-scratch layout ≡ false → (c : ℕ) → c < cell-count layout →
+        CoherentIn layout c (pass-at k) (body-left k) (ahead k) (n .state)
+    filled-coherent h e c i = coherent plan cs ok c i (scratch-own layout c i ∙ none-scratch layout e (array-of layout c)) h
 
     declare-next : (p : Pass) (ds : List Declaration) (t : Block ℕ) (ch : List Bool) (n : Progress) → Stages plan cs (declaring p ds t) ch n →
         (Stages plan cs (in-body p (p .body) t) ch n → ContinuesFrom (p .body then expand passes t) ch n) → ContinuesFrom (left-of passes (declaring p ds t)) ch n
@@ -134,22 +140,22 @@ module _ (plan : DeclaredPlan) (cs : List Bool) where
         a : ℕ
         a = d .array
 
-        needed : (m : Mode) → Stages plan cs (declaring p (declaration m s a ∷ ds) t) ch n → (c : ℕ) → c < cell-count layout →
+        needed : (m : Mode) → Stages plan cs (declaring p (declaration m s a ∷ ds) t) ch n → has-scratch layout ≡ false → (c : ℕ) → c < cell-count layout →
             met layout (whole-of need s a) (n .state) c ≡ true
-        needed m h c i = need-met layout c (n .state) p (p .body) m s a ds (coherent plan cs ok c i h)
+        needed m h e c i = need-met layout c (n .state) p (p .body) m s a ds (filled-coherent h e c i)
 
         go : (m : Mode) → Stages plan cs (declaring p (declaration m s a ∷ ds) t) ch n → ContinuesFrom (given (declaration m s a) rest) ch n
-        go R h = act-next 0 (whole-of need s a) rest ch n (needed R h) (at-stage rest ch refl (needs h))
-        go W h = act-next 0 (whole-of mark s a) rest ch n (λ c i. or-true (not (covers layout (whole-of mark s a) c))) (at-stage rest ch refl (marks h))
-        go RW h = act-next 0 (whole-of need s a) (act 0 (whole-of mark s a) rest) ch n (needed RW h) (at-stage (act 0 (whole-of mark s a) rest) ch refl (needs-first h))
+        go R h = act-next 0 (whole-of need s a) rest ch n (needed R h) (λ u. at-stage rest ch refl (needs h u))
+        go W h = act-next 0 (whole-of mark s a) rest ch n (λ e c i. or-true (not (covers layout (whole-of mark s a) c))) (λ u. at-stage rest ch refl (marks h))
+        go RW h = act-next 0 (whole-of need s a) (act 0 (whole-of mark s a) rest) ch n (needed RW h) (λ u. at-stage (act 0 (whole-of mark s a) rest) ch refl (needs-first h u))
 
     body-next : (b : Block Action) (t : Block ℕ) (p : Pass) (ch : List Bool) (n : Progress) →
         (Stages plan cs (in-body p Block.done t) ch n → ContinuesFrom (expand passes t) ch n) →
         Stages plan cs (in-body p b t) ch n → ContinuesFrom (b then expand passes t) ch n
     body-next Block.done t p ch n more h = more h
     body-next (act r x b) t p ch n more h = act-next r x (b then expand passes t) ch n
-        (λ c i. act-met layout c (n .state) p (act r x b) x (permitted-now x (judged plan cs ok h)) (coherent plan cs ok c i h))
-        (at-stage (b then expand passes t) ch refl (acts h))
+        (λ e c i. act-met layout c (n .state) p (act r x b) x (permitted-now x (judged plan cs ok h)) (filled-coherent h e c i))
+        (λ u. at-stage (b then expand passes t) ch refl (acts h))
     body-next (branch r x y b) t p [] n more h = λ l q. tt
     body-next (branch r x y b) t p (c ∷ ch) n more h =
         at-next (cond c x y then (b then expand passes t)) ch (sym (then-assoc (cond c x y) b (expand passes t))) (branches h)
@@ -189,7 +195,7 @@ module _ (plan : DeclaredPlan) (cs : List Bool) where
     stage-next (declaring p ds t) ch n h = declare-next p ds t ch n h (body-next (p .body) t p ch n (body0-next t p ch n))
     stage-next (marking p s a m ds t) ch n h =
         let rest = declared ds (p .body then expand passes t) in
-        act-next 0 (whole-of mark s a) rest ch n (λ c i. or-true (not (covers layout (whole-of mark s a) c))) (at-stage rest ch refl (marks-then h))
+        act-next 0 (whole-of mark s a) rest ch n (λ e c i. or-true (not (covers layout (whole-of mark s a) c))) (λ u. at-stage rest ch refl (marks-then h))
 
     continue : (k : Config) → Follows (unnumbered-config k) → Continues (k .choices) (unnumbered-events (k .history)) (unnumbered-step (step proper layout k))
     continue k f = subst (Continues (k .choices) (unnumbered-events (k .history))) same (stage-next (f .stage) (k .choices) _ (f .stages) (k .history) refl)
@@ -200,7 +206,7 @@ module _ (plan : DeclaredPlan) (cs : List Bool) where
             ∙ ap (λ b. step proper layout (config b (k .choices) (k .state) (unnumbered-events (k .history)))) (sym (f .left))
             ∙ step-unnumbered layout (k .state) (k .history) (k .left) (k .choices)
 
-    pub follows : {k : Config} → Run proper (expansion plan) cs k → Follows (unnumbered-config k)
+    follows : {k : Config} → Run proper (expansion plan) cs k → Follows (unnumbered-config k)
     follows here = record {
       stage = in-body no-pass Block.done (plan .body0);
       made = [];

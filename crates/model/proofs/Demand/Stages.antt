@@ -4,12 +4,13 @@ use Prim.Native.Nat.{ℕ}
 use mathlib.Core.Path.{_≡_, refl, ap, sym, _∙_}
 use mathlib.Core.List.{List, [], _∷_, map, reverseAux as onto}
 use mathlib.Core.Bool.{Bool, true, false, cond, not, false≢true}
+use mathlib.Core.Option.{none}
 use Rattle.model.specs.Lists.{keep, All}
 use Rattle.model.specs.Sides.{Side, other, Layout}
 use Rattle.model.specs.Records.{Verb, read, write, copy, need, mark, whole, Action, whole-of}
 use Rattle.model.specs.Effects.{Flags, State, start, Deed, nothing, moves, deed, effect}
 use Rattle.model.specs.Blocks.{Block, act, branch, loop, fixed, _then_}
-use Rattle.model.specs.Runs.{Event}
+use Rattle.model.specs.Runs.{Event, lowest-unmet}
 use Rattle.model.specs.Judging.{Mode, R, W, RW, Declaration, Pass, DeclaredPlan, pass-of, declared-once, permits, every-record, Way, at-end, passing, Itself, itself, Accepts}
 use Rattle.model.specs.Expanding.{expand}
 pub use Rattle.model.specs.Inner.Declared.{no-pass, declaration, declared}
@@ -123,9 +124,9 @@ module _ (plan : DeclaredPlan) (cs : List Bool) where
     calls : {p : Pass} {r b : ℕ} {t : Block ℕ} {ch : List Bool} {n : Progress} → Stages (in-body p Block.done (act r b t)) ch n →
         Stages (declaring (pass-of (plan .passes) b) (pass-of (plan .passes) b .declarations) t) ch (calling (pass-of (plan .passes) b) n)
     enters : {p : Pass} {t : Block ℕ} {ch : List Bool} {n : Progress} → Stages (declaring p [] t) ch n → Stages (in-body p (p .body) t) ch n
-    -- R
+    -- R; a need that is executed is met
     needs : {p : Pass} {s : Side} {a : ℕ} {ds : List Declaration} {t : Block ℕ} {ch : List Bool} {n : Progress} →
-        Stages (declaring p (declaration R s a ∷ ds) t) ch n →
+        Stages (declaring p (declaration R s a ∷ ds) t) ch n → lowest-unmet (plan .layout) (whole-of need s a) (n .state) ≡ none →
         Stages (declaring p ds t) ch (making R s a (not (n .state .flags a .flag s)) (executing (whole-of need s a) n))
     -- W
     marks : {p : Pass} {s : Side} {a : ℕ} {ds : List Declaration} {t : Block ℕ} {ch : List Bool} {n : Progress} →
@@ -133,7 +134,7 @@ module _ (plan : DeclaredPlan) (cs : List Bool) where
         Stages (declaring p ds t) ch (making W s a false (executing (whole-of mark s a) n))
     -- RW
     needs-first : {p : Pass} {s : Side} {a : ℕ} {ds : List Declaration} {t : Block ℕ} {ch : List Bool} {n : Progress} →
-        Stages (declaring p (declaration RW s a ∷ ds) t) ch n →
+        Stages (declaring p (declaration RW s a ∷ ds) t) ch n → lowest-unmet (plan .layout) (whole-of need s a) (n .state) ≡ none →
         Stages (marking p s a (not (n .state .flags a .flag s)) ds t) ch (executing (whole-of need s a) n)
     marks-then : {p : Pass} {s : Side} {a : ℕ} {m : Bool} {ds : List Declaration} {t : Block ℕ} {ch : List Bool} {n : Progress} →
         Stages (marking p s a m ds t) ch n →
@@ -170,9 +171,9 @@ module _ (plan : DeclaredPlan) (cs : List Bool) where
       let i = walks h in
       record { from-start = λ ds es w qs u v. i .from-start ch es [] _ at-end (passing {r = r} (called u) v) }
   walks (enters h) = walks h
-  walks (needs h) = walks h
+  walks (needs h u) = walks h
   walks (marks h) = walks h
-  walks (needs-first h) = walks h
+  walks (needs-first h u) = walks h
   walks (marks-then h) = walks h
   walks (acts {x = x} h) =
       let i = walks h in
@@ -207,9 +208,9 @@ module _ (plan : DeclaredPlan) (cs : List Bool) where
   declares-all begins = refl
   declares-all (calls {b = b} h) = ap (onto (pass-of (plan .passes) b .declarations)) (declares-all h)
   declares-all (enters h) = declares-all h
-  declares-all (needs h) = declares-all h
+  declares-all (needs h u) = declares-all h
   declares-all (marks h) = declares-all h
-  declares-all (needs-first h) = declares-all h
+  declares-all (needs-first h u) = declares-all h
   declares-all (marks-then h) = declares-all h
   declares-all (acts h) = declares-all h
   declares-all (branches h) = declares-all h
@@ -241,9 +242,9 @@ module _ (plan : DeclaredPlan) (cs : List Bool) (ok : Accepts plan) where
       let g = rules-of (plan .layout) (plan .passes) ok b in
       record { rules = each-rule (plan .layout) p g; once = g .once; permitted = g .permitted }
   judged (enters h) = judged h
-  judged (needs h) = judged-rest (judged h)
+  judged (needs h u) = judged-rest (judged h)
   judged (marks h) = judged-rest (judged h)
-  judged (needs-first h) = judged h
+  judged (needs-first h u) = judged h
   judged (marks-then h) = judged-rest (judged h)
   judged (acts {p = p} {x = x} {b} h) =
       let f = permits (p .declarations) in
@@ -286,9 +287,9 @@ module _ (plan : DeclaredPlan) (cs : List Bool) (ok : Accepts plan) where
   executed-so-far begins = refl
   executed-so-far (calls h) = executed-so-far h
   executed-so-far (enters h) = executed-so-far h
-  executed-so-far (needs {s = s} {a} {n = n} h) = λ i. record { number = 0; action = whole-of need s a; deed = need-deed s a (n .state) i } ∷ executed-so-far h i
+  executed-so-far (needs {s = s} {a} {n = n} h u) = λ i. record { number = 0; action = whole-of need s a; deed = need-deed s a (n .state) i } ∷ executed-so-far h i
   executed-so-far (marks {s = s} {a} {n = n} h) = ap (_∷_ (event 0 (whole-of mark s a) (n .state))) (executed-so-far h)
-  executed-so-far (needs-first {s = s} {a} {n = n} h) = λ i. record { number = 0; action = whole-of need s a; deed = need-deed s a (n .state) i } ∷ executed-so-far h i
+  executed-so-far (needs-first {s = s} {a} {n = n} h u) = λ i. record { number = 0; action = whole-of need s a; deed = need-deed s a (n .state) i } ∷ executed-so-far h i
   executed-so-far (marks-then {s = s} {a} {n = n} h) = ap (_∷_ (event 0 (whole-of mark s a) (n .state))) (executed-so-far h)
   executed-so-far (acts {p = p} {x = x} {n = n} h) = permitted-whole (p .declarations) x (n .state) (n .history) (permitted-now x (judged h)) ∙ executed-so-far h
   executed-so-far (branches h) = executed-so-far h

@@ -173,6 +173,10 @@ module _ (a : ℕ) where
       go true i = (e, q, tt)
       go false i = (e, q, i)
 
+  -- the moves of the first interval
+  pub told-moves : (t : Side) (ds : List Did) (made : List Made) → Alike ds made → moves-to a t (interval a made) ≡ copies a t (interval-from a ds)
+  told-moves t ds made l = told-copies t (interval-from a ds) (interval a made) (told-interval ds made l)
+
   told-reads : (t : Side) (ds : List Did) (made : List Made) → Alike ds made → any (declares-read a t) made ≡ any (did-read a t) ds
   told-reads t [] [] l = refl
   told-reads t [] (m ∷ made) l = absurd l
@@ -182,7 +186,7 @@ module _ (a : ℕ) where
   pub told-once : (w : Side) (ds : List Did) (made : List Made) → Alike ds made → CopiesOnce a w (interval-from a ds) → MovesOnce a w (interval a made)
   told-once w ds made l c t =
       let i = told-interval ds made l in
-      told-copies t (interval-from a ds) (interval a made) i ∙ (c t ∙ rw (told-reads t (interval-from a ds) (interval a made) i))
+      told-moves t ds made l ∙ (c t ∙ rw (told-reads t (interval-from a ds) (interval a made) i))
 
   -- the interval after a declared write
   pub told-after : (ds : List Did) (made before after : List Made) (m : Made) → Alike ds made → made ≡ before ++ (m ∷ after) → declares-write a m ≡ true →

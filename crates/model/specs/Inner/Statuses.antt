@@ -1,7 +1,7 @@
 -- No promise of an entry point rests on this text: the status of one cell, that is which of its copies are current and which flags of its
 -- array are set.
 use Prim.Native.Nat.{ℕ}
-use mathlib.Core.Bool.{Bool, true, cond, not, _||_}
+use mathlib.Core.Bool.{Bool, true, cond, not, _&&_, _||_}
 use lib.Dec.{eqb}
 use Rattle.model.specs.Sides.{Side, host, card, same-side, Layout}
 use Rattle.model.specs.Records.{Action, covers}
@@ -25,6 +25,10 @@ flag-on u card = u .card-flag
 -- the status with these copies current and these flags set
 abbrev pub status : (Side → Bool) → (Side → Bool) → Status
 status f g = record { host-current = f host; card-current = f card; host-flag = g host; card-flag = g card }
+
+-- a cell's status at the start: the host current and flagged; of scratch nothing current and no flag
+abbrev pub at-start : Bool → Status
+at-start scratch = status (λ s. same-side s host && not scratch) (λ s. same-side s host && not scratch)
 
 -- what a deed needs, and makes, of the copies that are current
 abbrev pub needs-of : Deed → (Side → Bool) → Bool

@@ -2,22 +2,15 @@
 use borrow.Author.Needs.{needs}
 use Rattle.steps.proofs.first_machine.Statement.{statement}
 use Rattle.steps.proofs.first_machine.Tie as tie
-use Rattle.steps.proofs.first_machine.Reads as reads
-use Rattle.steps.proofs.first_machine.Lts as lts
-use Rattle.memories.proofs.flags.all_flags.Reads as all-flags-reads
-use Rattle.places.proofs.first_place.Reads as first-place-reads
 
 first-place-requires : tie.Need-first-place-requires
 first-place-requires c κs = search needs
-
-all-flags-requires : tie.Need-all-flags-requires
-all-flags-requires c κs = search needs
 
 known-at-start-requires : tie.Need-known-at-start-requires
 known-at-start-requires c κs = search needs
 
 returns : tie.Need-returns
-returns c = rw (c .before .before .first-place .ensures, c .before .all-flags .ensures, c .known-at-start .ensures)
+returns c = rw (c .before .first-place .ensures, c .known-at-start .ensures)
 
 pub first-machine-spec : {M : Type 1} → statement M
-first-machine-spec = tie.close (tie.spec first-place-requires all-flags-requires known-at-start-requires returns)
+first-machine-spec = tie.close (tie.spec first-place-requires known-at-start-requires returns)

@@ -6,11 +6,12 @@ use mathlib.Core.List.{List}
 use lib.ListN.{length, getD}
 use Rattle.model.specs.declared.Verdict.the-variants.{Accepted}
 use Rattle.model.specs.declared.Tally.{Tally}
-use Rattle.model.specs.Sides.{cell-count}
+use Rattle.model.specs.Sides.{host, cell-count}
+use Rattle.model.specs.Effects.{start}
 use Rattle.contents.specs.declared.Opened.{Opened}
-use Rattle.reading.specs.Bytes.{is-plain, layout-of}
+use Rattle.reading.specs.Bytes.{is-plain, array-count, layout-of, bodies-at}
 use Rattle.format.specs.Opening.{opening, opened}
-use Rattle.memories.specs.Flags.{mask}
+use Rattle.memories.specs.Memories.{number-of}
 use Rattle.known.specs.Inner.Knowing.{at-start}
 use Rattle.standing.specs.declared.Machine.{Machine}
 use Rattle.places.specs.Inner.Places.{started}
@@ -22,13 +23,28 @@ pub record Fronted (starts before room : List ℕ) : Type 0 where
   pub front : (a : ℕ) → a < 33 → getD room a 0 ≡ getD starts a 0
   pub behind : (a : ℕ) → 33 ≤ a → getD room a 0 ≡ getD before a 0
 
--- before the first record
+-- the file has so many arrays, and their entries stand inside it
+pub record Counted (f : List ℕ) (arrays : ℕ) : Type 0 where
+  pub count : arrays ≡ array-count f
+  pub few : arrays ≤ 32
+  pub inside : bodies-at f ≤ length f
+
+-- the first n cells hold 0
+pub record Zeros (n : ℕ) (memory : List ℕ) : Type 0 where
+  pub inside : n ≤ length memory
+  pub zero : (c : ℕ) → c < n → getD memory c 0 ≡ 0
+
+-- what the host's memory holds of cell c before the first record
+unfoldable pub first-host : List ℕ → ℕ → ℕ
+first-host f c = number-of (start (layout-of f) .cell c .held host)
+
+-- before the first record, where the host's flags are these
 abbrev pub first-machine : ℕ → ℕ → ℕ → Machine
-first-machine records arrays bodies = record {
+first-machine records flags bodies = record {
   place = started records;
-  flags = mask arrays (λ a. true);
+  flags = flags;
   «other_flags» = 0;
-  known = at-start arrays;
+  known = at-start flags;
   bodies = bodies;
   last = record {
     0 = 0;

@@ -41,6 +41,6 @@ unfoldable pub pieces : List ℕ → ℕ → List Fields
 pieces f zero = []
 pieces f (suc r) = pieces f r ++ piece f r
 
--- header, array lengths and the entry of one body of n records
+-- header, the arrays' entries and the entry of one body of n records
 unfoldable pub contents-bytes : List ℕ → ℕ → List ℕ
 contents-bytes f n = ((2 ∷ array-count f ∷ 1 ∷ 0 ∷ []) ++ take (2 * array-count f) (drop 4 f)) ++ (u16-bytes n ++ (0 ∷ 0 ∷ []))
