@@ -267,7 +267,7 @@ fn found_by_the_check_of_the_expansion() {
         let file = encode(&declared_draft(&[entry], script, &[fill.clone(), look.clone()]));
         assert_eq!(archive::judge(&file).number, 0);
         let expansion = match_rooms(&file, &mut Counts::new()).expect("an expansion");
-        let plan = plan_of_file(&file);
+        let plan = walker::open(&file).unwrap();
         let shown = demand_3(&plan, &walker::expand::expansion(&plan), &[0]).unwrap();
         (archive::check(&expansion).number, shown.stopped)
     };
@@ -276,10 +276,6 @@ fn found_by_the_check_of_the_expansion() {
     assert_eq!(answers(&[call(2), call(1)], 2), (0, false));
     // Filled on one way only: this run passes by it, another does not.
     assert_eq!(answers(&[Step::Branch(vec![call(2)], vec![call(1)]), call(2)], SCRATCH + 2), (18, false));
-}
-
-fn plan_of_file(file: &[u8]) -> Plan {
-    walker::open(file).unwrap()
 }
 
 /// Demand 3 with scratch, clause by clause; where the expansion passes the check no

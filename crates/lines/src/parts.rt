@@ -57,7 +57,7 @@ const PARTS: [u8; 199] = *b"
 
 const ARRAY: u8 = 0;
 
-const SCRATCH: u8 = 20;
+const SCRATCH_ARRAY: u8 = 20;
 
 pub const BODY: u8 = 10;
 
@@ -65,7 +65,7 @@ pub const BODY: u8 = 10;
 pub fn array_part(scratch: bool) -> u8
     ensures { λ r. ⌜ r ≤ 40 ⌝ }
 {
-    if scratch { SCRATCH } else { ARRAY }
+    if scratch { SCRATCH_ARRAY } else { ARRAY }
 }
 
 // The line of array or body i, which has the cells or records from `first` up to `end`.

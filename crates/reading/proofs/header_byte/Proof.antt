@@ -1,7 +1,6 @@
 -- `header_byte` reads a byte of the header.
 use mathlib.Core.Path.{refl}
 use native.Mathlib.Omega.{arith}
-use borrow.Author.Needs.{needs}
 use Rattle.reading.specs.Bytes.{entry-at}
 use Rattle.reading.proofs.header_byte.Statement.{statement}
 use Rattle.reading.proofs.header_byte.Tie as tie
