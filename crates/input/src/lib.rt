@@ -5,6 +5,8 @@ ghost use lib.ListN.{length};
 ghost use Rattle.io.specs.Counts.{Counts};
 use libc::STDIN_FILENO;
 
+pub mod files;
+
 // One byte more than the largest plan file, which has 32 arrays, 32 bodies and 1,024 records. Of a longer input these bytes decide the answer
 // (specs/Longer).
 pub const ROOM: usize = 8391;

@@ -1,14 +1,11 @@
 // Runs a plain plan on a list of choices: reads both files, whose paths are its first arguments, and prints the figures of the run. With two more
 // arguments, a first and an end cell, it prints the memory view of these cells after the run too.
-ghost use mathlib.Core.Path.{_≡_};
-ghost use Rattle.io.specs.Counts.{Counts};
 use console::arguments::NO_NUMBER;
 use console::arguments::number_argument;
 use console::page::Page;
 use console::page::finish;
-use input::Input;
 use input::ROOM;
-use input::read_input;
+use input::files::read_argument;
 use libc::STDERR_FILENO;
 use printing::report_lines;
 use reading::kinds::CELLS;
@@ -23,50 +20,6 @@ mod viewing;
 
 // One more than the most choices that a run takes, so that a longer file is seen to be longer.
 const CHOICES_ROOM: usize = 65537;
-
-// Says on standard error which file cannot be read and why: what it is for, its path as far as it is known, and the system's words.
-fn unread(what: &[u8], path: &[u8]) -> Input
-    ensures { λ r. ⌜ r .size ≡ 0 ⌝ }
-{
-    io::write_all(STDERR_FILENO, b"planrun: ");
-    io::write_all(STDERR_FILENO, what);
-    if path.len() != 0 {
-        io::write_all(STDERR_FILENO, b" ");
-    }
-    os::fail(path);
-    Input {
-        size: 0,
-        failed: true,
-    }
-}
-
-// Reads the file with this path as far as the room goes, or says why it cannot.
-fn read_file(what: &[u8], path: &[u8], room: &mut [u8]) -> Input
-    ensures { λ r. ⌜ Counts (r .size) (now (room .exit)) ⌝ }
-{
-    let fd = os::open_read(path);
-    if fd < 0 {
-        return unread(what, path);
-    }
-    let input = read_input(fd, room);
-    if input.failed {
-        unread(what, path);
-    }
-    libc::close(fd);
-    input
-}
-
-// Reads the file that argument i names.
-fn read_argument(i: usize, what: &[u8], room: &mut [u8]) -> Input
-    ensures { λ r. ⌜ Counts (r .size) (now (room .exit)) ⌝ }
-{
-    let mut path = io::buffer();
-    let n = os::arg(i, &mut path);
-    if os::errno() != 0 {
-        return unread(what, b"");
-    }
-    read_file(what, &path[..n], room)
-}
 
 // The third and the fourth argument.
 fn cells_asked() -> Cells {
@@ -117,7 +70,7 @@ fn answer(page: &mut Page, plan: &[u8], choices: &[u8], cells: Cells) -> usize {
 // Runs a plan on the file of choices that the second argument names.
 fn run_plan(plan: &[u8], cells: Cells) {
     let mut choices = [0u8; CHOICES_ROOM];
-    let input = read_argument(2, b"choices file", &mut choices);
+    let input = read_argument(b"planrun", 2, b"choices file", &mut choices);
     if input.failed {
         return;
     }
@@ -130,7 +83,7 @@ fn run_plan(plan: &[u8], cells: Cells) {
 // The same of the plan file that the first argument names.
 fn run_files(cells: Cells) {
     let mut plan = [0u8; ROOM];
-    let input = read_argument(1, b"plan file", &mut plan);
+    let input = read_argument(b"planrun", 1, b"plan file", &mut plan);
     if input.failed {
         return;
     }
