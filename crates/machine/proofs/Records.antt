@@ -30,7 +30,7 @@ use Rattle.known.proofs.Sets.{Piece}
 use Rattle.acts.specs.declared.Stored.{Stored}
 use Rattle.acts.specs.Inner.Acting.{CellsAt, ArrayAt, Holds}
 use Rattle.acts.proofs.Stale.{each-counted, few-between, range-piece}
-use Rattle.reading.specs.Inner.Cells.{from-of, to-of}
+use Rattle.reading.specs.Inner.Cells.{from-of, to-of, step-of}
 
 module _ (f : List ℕ) (bodies : ℕ) (w : Plain f bodies) (x : Fields) (fit : fields-fit f x ≡ true) (kind : (1 ≤ x .kind) × (x .kind ≤ 5)) where
   abbrev layout : Layout
@@ -41,6 +41,17 @@ module _ (f : List ℕ) (bodies : ℕ) (w : Plain f bodies) (x : Fields) (fit : 
 
   pub few-arrays : x .array < 32
   few-arrays = omega (arith, on-array .1, opened-facts f (w .opens) .bounds .header .arrays)
+
+  -- "Unused fields are zero.": the byte of a need or a mark means each cell
+  each-is : 3 < x .kind → distance (x .step) ≡ 1
+  each-is k =
+      let on = ltb (x .side) 2 && ltb (x .array) (array-count f) in
+      let w₁ = and-out (on && eqb (x .step) 0 && eqb (x .p) 0) _ (fit-array f x _ _ _ (record { arrays-are = refl; bodies-are = refl; size-is = refl }) (omega arith) (kind .1) ∙ fit) in
+      let w₂ = and-out (on && eqb (x .step) 0) (eqb (x .p) 0) (w₁ .0) in
+      distance-each (x .step) (omega (arith, eqb-true (x .step) 0 (and-out on (eqb (x .step) 0) (w₂ .0) .1)))
+
+  pub step-is : distance (x .step) ≡ step-of x
+  step-is = elim (decLt 3 (x .kind)) [ yes k ↦ rw (lt-leb (x .kind) 3 k) (each-is k) | no k ↦ rw (le-leb (x .kind) 3 (omega arith)) ]
 
   module _ (first next : ℕ) (e : first ≡ span-of layout (x .array) .first) (g : next ≡ span-of layout (x .array + 1) .first) where
     next-is : next ≡ span-of layout (x .array) .first + span-of layout (x .array) .length
@@ -78,22 +89,14 @@ module _ (f : List ℕ) (bodies : ℕ) (w : Plain f bodies) (x : Fields) (fit : 
       to-next : to-of x first next ≡ span-of layout (x .array) .first + span-of layout (x .array) .length
       to-next = rw (lt-leb (x .kind) 3 k) next-is
 
-      -- "Unused fields are zero.": the byte of a need or a mark means each cell
-      each-is : distance (x .step) ≡ 1
-      each-is =
-          let on = ltb (x .side) 2 && ltb (x .array) (array-count f) in
-          let w₁ = and-out (on && eqb (x .step) 0 && eqb (x .p) 0) _ (fit-array f x _ _ _ (record { arrays-are = refl; bodies-are = refl; size-is = refl }) (omega arith) (kind .1) ∙ fit) in
-          let w₂ = and-out (on && eqb (x .step) 0) (eqb (x .p) 0) (w₁ .0) in
-          distance-each (x .step) (omega (arith, eqb-true (x .step) 0 (and-out on (eqb (x .step) 0) (w₂ .0) .1)))
-
       full : (v : Verb) → whole v ≡ true → CellsAt layout (acting v x) (distance (x .step)) (from-of x first) (to-of x first next)
       full v w = record {
         one = rw (arrays-counted f) (on-array .1);
-        some = omega (arith, each-is);
-        cells = λ c. rw (each-is, from-first, to-next) (covers-whole layout (acting v x) c w ∙ sym (stepped-one _ _ c));
+        some = omega (arith, each-is k);
+        cells = λ c. rw (each-is k, from-first, to-next) (covers-whole layout (acting v x) c w ∙ sym (stepped-one _ _ c));
         own = λ c i j. array-from layout (x .array) c (omega (arith, from-first)) (omega (arith, to-next));
         ends = omega (arith, to-next, array-ends layout (x .array));
-        count = whole-count layout (acting v x) w ∙ (omega (arith, from-first, to-next) ∙ each-counted (distance (x .step)) _ _ each-is);
+        count = whole-count layout (acting v x) w ∙ (omega (arith, from-first, to-next) ∙ each-counted (distance (x .step)) _ _ (each-is k));
       }
 
     pub spans : CellsAt layout (action-of x) (distance (x .step)) (from-of x first) (to-of x first next)

@@ -10,7 +10,8 @@ use Rattle.memories.proofs.Cells.{same-all, same-more}
 use Rattle.standing.specs.Inner.Standing.{runner, stored-with}
 use Rattle.reading.specs.Inner.Cells.{from-of, to-of}
 use Rattle.machine.proofs.Records.{on-array}
-use Rattle.machine.proofs.Steps.{fits-inside, record-fits, kind-is, not-deep, turns-left, Able, at-end, at-lead, able, at-record, ensured}
+use Rattle.machine.proofs.Ways.{fits-inside, record-fits, kind-is, not-deep, turns-left, Able}
+use Rattle.machine.proofs.Steps.{at-end, at-lead, able, at-record, ensured}
 use borrow.Author.Needs.{needs}
 use Rattle.machine.proofs.step.Statement.{statement}
 use Rattle.machine.proofs.step.Tie as tie
