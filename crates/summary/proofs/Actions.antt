@@ -14,7 +14,7 @@ use Rattle.format.specs.Inner.Walks.{Walkable, block-between}
 use Rattle.format.proofs.Trees.{low-leaf, block-act, no-arms}
 use Rattle.format.proofs.Acts.{by-kind}
 use Rattle.lookahead.specs.Inner.Ahead.{cell-at, covers}
-use Rattle.summary.proofs.Touched.{covers-here}
+use Rattle.statuses.proofs.Touched.{covers-here}
 
 module _ (x : Fields) (h : (1 ≤ x .kind) × (x .kind ≤ 5)) where
   -- record r of those up to `end`

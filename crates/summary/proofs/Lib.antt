@@ -1,5 +1,3 @@
--- a record that touches a cell, or does not
-pub mod Touched
 -- what is found of blocks and of loops
 pub mod Blocks
 pub mod Ways

@@ -23,7 +23,7 @@ use Rattle.format.proofs.Walking.{opened-facts}
 use Rattle.format.proofs.Trees.{is-branch, is-loop, is-fixed, is-leaf, shape, acts, block-none, block-branch, block-loop, block-fixed}
 use Rattle.format.proofs.Acts.{Here, here, after-act}
 use Rattle.lookahead.specs.Inner.Ahead.{cell-at, covers, Ahead}
-use Rattle.summary.proofs.Touched.{spares}
+use Rattle.statuses.proofs.Touched.{spares}
 use Rattle.summary.proofs.Skips.{Untouched}
 use Rattle.summary.proofs.Actions.{next-act, act-covers}
 

@@ -10,7 +10,7 @@ use Rattle.model.proofs.Status.{Status}
 use Rattle.model.proofs.Through.{Star, stay, more, Power, Goes, Stops}
 use Rattle.statuses.specs.declared.acts.Found.{Found}
 use Rattle.statuses.specs.Inner.Sets.{In}
-use Rattle.summary.proofs.Touched.{Spares}
+use Rattle.statuses.proofs.Touched.{Spares}
 use Rattle.summary.proofs.Ways.{Found-in, ran-iff, ran-none}
 
 star-none : {R : Status → Status → Type 0} → ((u v : Status) → R u v → u ≡ v) → {u v : Status} → Star R u v → u ≡ v

@@ -15,7 +15,7 @@ use Rattle.statuses.specs.declared.acts.Found.{Found}
 use Rattle.statuses.specs.Inner.Sets.{statuses, index, bit, In, Union, touched-met, touched-after}
 use Rattle.statuses.specs.Inner.Ran.{Ran}
 use Rattle.statuses.proofs.Statuses.{index-below, index-one, in-union}
-use Rattle.summary.proofs.Touched.{touched-met-in, touched-status-after}
+use Rattle.statuses.proofs.Touched.{touched-met-in, touched-status-after}
 use Rattle.summary.proofs.Blocks.{goes-then, stops-then}
 
 module _ {G H : Status → Status → Type 0} {S T : Status → ℕ → Type 0} {from : Status → Type 0} {low : ℕ} {t : Found} where
