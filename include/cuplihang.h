@@ -67,6 +67,15 @@ uint64_t plan_joined_sums(const uint8_t *front, size_t front_length, uint64_t ba
    above 24, and all are as they were. The number stands in bits 0 to 15; all other bits are 0. */
 uint64_t plan_sheet(uint64_t n, uint64_t *figures);
 
+/* Holds a router's log against a plain plan. The log has an entry of two bytes, low byte first, for each executed record, each test of a branch or loop, and each
+   turn of a fixed loop at its start: the record's number. 0 accepted, it is the beginning of a run and no entry of it is stuck; 30 no run, stops aside, goes on
+   with an entry; 31 the record at an entry is stuck; 29 odd length; 1 to 11, 26. The log may be of any length. Packed as by plan_open, with the place of 1 to
+   11 and 26, and 0 there at 29 to 31: which entry it is plan_log_entry says. */
+uint64_t plan_log(const uint8_t *plan, size_t plan_length, const uint8_t *log, size_t log_length);
+
+/* The entry, from 0, that 30 or 31 of plan_log is about; 0 at every other answer. It is a whole number of 64 bits. */
+uint64_t plan_log_entry(const uint8_t *plan, size_t plan_length, const uint8_t *log, size_t log_length);
+
 #ifdef __cplusplus
 }
 #endif

@@ -244,3 +244,29 @@ mod sheets {
 }
 #[cfg(feature = "sheet")]
 pub use sheets::*;
+
+#[cfg(feature = "log")]
+mod logging {
+    use super::Answer;
+
+    extern "C" {
+        fn plan_log(plan: *const u8, plan_length: usize, log: *const u8, log_length: usize) -> u64;
+        fn plan_log_entry(plan: *const u8, plan_length: usize, log: *const u8, log_length: usize) -> u64;
+    }
+
+    /// The answer, and the entry that 30 and 31 name.
+    pub fn log(plan: &[u8], log: &[u8]) -> (Answer, u64) {
+        (log_answer(plan, log), log_entry(plan, log))
+    }
+
+    fn log_entry(plan: &[u8], log: &[u8]) -> u64 {
+        unsafe { plan_log_entry(plan.as_ptr(), plan.len(), log.as_ptr(), log.len()) }
+    }
+
+    /// The answer alone.
+    pub fn log_answer(plan: &[u8], log: &[u8]) -> Answer {
+        Answer::unpack(unsafe { plan_log(plan.as_ptr(), plan.len(), log.as_ptr(), log.len()) })
+    }
+}
+#[cfg(feature = "log")]
+pub use logging::*;

@@ -2,6 +2,8 @@
 
 use crate::generate::*;
 use crate::walker::expand::expand;
+use crate::walker::log::{log_bytes, log_of};
+use crate::walker::open;
 
 const HOST: u8 = 0;
 const CARD: u8 = 1;
@@ -51,6 +53,20 @@ pub fn router() -> Draft {
 /// Two turns of the router's loop: a wave of one turn and a trace, a wave of
 /// none and a ripping up.
 pub const ROUTER_CHOICES: [u8; 9] = [1, 1, 0, 1, 1, 0, 0, 1, 0];
+
+/// The entries of a run's log.
+fn entries(file: &[u8], choices: &[u8]) -> Vec<u16> {
+    log_of(&open(file).expect("a plan"), choices, usize::MAX)
+}
+
+/// The router's log without its first wave, the records 7 to 14: the trace ran out
+/// of turn.
+fn early_trace(mut entries: Vec<u16>) -> Vec<u16> {
+    let wave = entries.iter().position(|&entry| entry == 7).expect("a wave");
+    let trace = entries.iter().position(|&entry| entry == 15).expect("a trace");
+    entries.drain(wave..trace);
+    entries
+}
 
 /// A plan that stops, though no run with each loop turned twice and each branch
 /// kept to one arm does.
@@ -118,6 +134,9 @@ pub fn examples() -> Vec<(String, Vec<u8>)> {
         .zip(twelve_cases())
         .map(|(number, (draft, _))| (format!("case-{number:02}.plan"), encode(&draft)))
         .collect();
+    let log = entries(&expanded, &ROUTER_CHOICES);
+    files.push(("router.log".into(), log_bytes(&log)));
+    files.push(("router-early.log".into(), log_bytes(&early_trace(log))));
     files.push(("router.plan".into(), router));
     files.push(("router-expanded.plan".into(), expanded));
     files.push(("router.choices".into(), ROUTER_CHOICES.into()));
@@ -130,7 +149,9 @@ pub fn examples() -> Vec<(String, Vec<u8>)> {
     files.push(("labels-early.plan".into(), encode(&labels(true))));
     files.push(("labels.choices".into(), LABELS_CHOICES.into()));
     files.push(("none.choices".into(), vec![]));
-    files.push(("old-way.plan".into(), encode(&Draft::plain(&[1], &old_way()))));
+    let old_way = encode(&Draft::plain(&[1], &old_way()));
+    files.push(("old-way.log".into(), log_bytes(&entries(&old_way, &OLD_WAY_CHOICES))));
+    files.push(("old-way.plan".into(), old_way));
     files.push(("old-way.choices".into(), OLD_WAY_CHOICES.into()));
     files
 }

@@ -21,12 +21,13 @@ const NUMBERS: [(&str, &str); 10] = [
 /// The words of a refusal with its place.
 pub fn refusal(number: u16, place: usize) -> String {
     match number {
-        11 => "judge or expand without kind 1, check or run without kind 2".into(),
+        11 => "judge or expand without kind 1, check, run or log without kind 2".into(),
         20 => "over 65,536 choices".into(),
         23 => "first not below end, or end past the shortest memory".into(),
         24 => "neither side wholly current".into(),
         25 => "no such body".into(),
         26 => format!("along some nesting the product of the counts passes 4,096, record {place}"),
+        29 => "odd length".into(),
         38 => "n above 24".into(),
         _ => match NUMBERS[number as usize - 1] {
             (words, "") => words.into(),

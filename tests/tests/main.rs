@@ -6,6 +6,7 @@ mod examples;
 mod expand;
 mod fixed;
 mod joins;
+mod log;
 mod open;
 mod plancheck;
 mod planlist;

@@ -20,7 +20,7 @@ pub fn print_answer(fd: i32, kind: u8, v: Values) -> bool {
 
 // The numbers that the programs give in words, those of document 01, 'Numbers by the place where each is checked', and of document 02, and behind them
 // the place, for the numbers that have one.
-const WORDS: [u8; 789] = *b"
+const WORDS: [u8; 809] = *b"
 01 under 4 bytes|
 02 a header byte against its rule|
 03 file ends inside the contents|
@@ -31,13 +31,14 @@ const WORDS: [u8; 789] = *b"
 08 a field against its rule, record #|
 09 kind not allowed there, record #|
 10 arm past the end of what holds it, or nested too deep, record #|
-11 judge or expand without kind 1, check or run without kind 2|
+11 judge or expand without kind 1, check, run or log without kind 2|
 19 a memory shorter than the cells|
 20 over 65,536 choices|
 23 first not below end, or end past the shortest memory|
 24 neither side wholly current|
 25 no such body|
 26 along some nesting the product of the counts passes 4,096, record #|
+29 odd length|
 38 n above 24|
 ";
 

@@ -7,6 +7,8 @@ use Rattle.model.specs.declared.End.{End}
 use Rattle.format.specs.Opening.{opened}
 use Rattle.checker.specs.Checking.{Checks}
 use Rattle.run.specs.Running.{Lent, Runs}
+use Rattle.logs.specs.declared.Logged.{Logged}
+use Rattle.logs.specs.Logged.{Answers}
 use Rattle.packing.specs.Packed.{packed-answer, figures-of}
 
 -- an answer about the file f, with its kind; a stop has the number `stop`
@@ -25,3 +27,15 @@ pub record PackedRun (f choices : List ℕ) (before after : Lent) (figures-befor
   pub runs : Runs f choices before after answer
   pub figures : figures-after ≡ figures-of answer figures-before
   pub packs : r ≡ packed-for f 21 (answer .verdict)
+
+-- the answer r of `plan_log`: that to the log
+pub record PackedLog (f log : List ℕ) (r : ℕ) : Type 0 where
+  pub answer : Logged
+  pub answers : Answers f log answer
+  pub packs : r ≡ packed-for f 0 (answer .verdict)
+
+-- the answer r of `plan_log_entry`: the entry that the answer to the log names
+pub record EntryOf (f log : List ℕ) (r : ℕ) : Type 0 where
+  pub answer : Logged
+  pub answers : Answers f log answer
+  pub entry : r ≡ answer .entry

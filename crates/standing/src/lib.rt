@@ -121,7 +121,7 @@ pub fn lead(m: Machine, x: Fields, choices: &[u8], room: &mut [u16]) -> Machine
 }
 
 // The place past a record without arms.
-fn past(p: Place) -> Place
+pub fn past(p: Place) -> Place
     requires { ⌜ p .at < 1024 ⌝ }
     ensures { λ r. ⌜ ((room : List ℕ) → spot r room ≡ past-record (spot p room)) ⌝ }
 {

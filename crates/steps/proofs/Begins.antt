@@ -37,11 +37,11 @@ use Rattle.known.proofs.Sets.{start-known}
 -- the start
 module _ (f choices : List ℕ) (facts : Facts f) (kind : is-plain f ≡ true) where
   module _ (room : List ℕ) (size : length room ≡ 81) (fresh : (d : ℕ) → begun-at room d ≡ 0) where
-    start-left : plan-of f .body ≡ left-of f (spot (started (record-count f)) room)
+    pub start-left : plan-of f .body ≡ left-of f (spot (started (record-count f)) room)
     unfolding rest-of
     start-left = plain-body f facts ∙ sym (left-on f (spot (started (record-count f)) room) (fresh 0) 0 ∙ then-done (block-between f 0 (record-count f)))
 
-    start-placed : Placed f (spot (started (record-count f)) room)
+    pub start-placed : Placed f (spot (started (record-count f)) room)
     unfolding Parts
     start-placed = record {
       size = size;

@@ -60,10 +60,10 @@ entry-in f n a w h = omega (arith, w .count, w .inside)
 
 -- the cells of array a
 module _ (f : List ℕ) (a : ℕ) (one : a < array-count f) where
-  ends-at : span-of (layout-of f) (a + 1) .first ≡ span-of (layout-of f) a .first + length-at f a
+  pub ends-at : span-of (layout-of f) (a + 1) .first ≡ span-of (layout-of f) a .first + length-at f a
   ends-at = rw add-one (next-cell f a one)
 
-  ends-low : span-of (layout-of f) (a + 1) .first ≤ cell-count (layout-of f)
+  pub ends-low : span-of (layout-of f) (a + 1) .first ≤ cell-count (layout-of f)
   ends-low = omega (arith, first-rises (lengths-of f) (a + 1) (array-count f) (omega arith), all-cells f)
 
   -- each starts as the array does

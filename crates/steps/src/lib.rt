@@ -70,7 +70,7 @@ fn write_start(
 }
 
 // Puts the first cells of the arrays at the front of the room.
-fn put_starts(starts: &[u16; STARTS], room: &mut [u16])
+pub fn put_starts(starts: &[u16; STARTS], room: &mut [u16])
     requires { ⌜ length (now room) ≡ 81 ⌝ }
     ensures { λ _. ⌜ Fronted (now (starts .entry)) (now (room .entry)) (now (room .exit)) ⌝ }
 {

@@ -1,10 +1,12 @@
 //! Times of the library beside those of the walker: same process, same inputs,
-//! release. Usage: `bench [open] [sums] [check] [judge] [run] [sheet]`, all without a word.
+//! release. Usage: `bench [open] [sums] [check] [judge] [run] [sheet] [log]`,
+//! all without a word.
 //! Nothing is asserted; the ratio is printed.
 
 use cuplihang_tests::generate::*;
 use cuplihang_tests::plain_sums;
 use cuplihang_tests::walker::check::summary;
+use cuplihang_tests::walker::log::{log_by, log_bytes};
 use cuplihang_tests::walker::{self, Memories, Tally};
 use std::cell::RefCell;
 use std::hint::black_box;
@@ -149,6 +151,14 @@ mod library {
         let (memories, choices) = room.memories();
         let (mut tally, mut end) = ([0; 3], [0; 5]);
         black_box(archive::run(file, memories, choices, &mut tally, &mut end));
+    });
+
+    /// The log stands where the choices do.
+    #[cfg(not(feature = "log"))]
+    pub const LOG: Option<Work> = None;
+    #[cfg(feature = "log")]
+    pub const LOG: Option<Work> = Some(|file, room| {
+        black_box(archive::log_answer(file, &room.choices));
     });
 
     #[cfg(not(feature = "sheet"))]
@@ -388,19 +398,48 @@ fn bench_sheet() {
     }
 }
 
+/// Logs of ten million entries: of a loop over one cell, and of a loop over a plan
+/// that nests at random; and a short one of records of 4,096 cells.
+fn bench_log() {
+    let mut rng = Rng::new(99);
+    let turns = |cells| {
+        let small = vec![write(0, 0, 0, cells), copy(1, 0, 0, cells), read(1, 0, 0, cells)];
+        encode(&Draft::plain(&[cells], &[Step::Loop(small)]))
+    };
+    let mut draft = plain(&mut rng, &Shape::new(4, 64, 200, 15, 40));
+    let records = &mut draft.bodies[0].records;
+    records.insert(0, raw(7, 0, 0, records.len() as u16, 0));
+    let stops = |file: &[u8]| summary(&walker::open(file).unwrap()).map(|stop| stop.record);
+    mend(&mut rng, &mut draft, 10_000, &stops);
+    for (name, file, length) in [
+        ("log: one cell, 10^7 entries", turns(1), 10_000_000),
+        ("log: nested at random, 10^7 entries", encode(&draft), 10_000_000),
+        ("log: 4,096 cells, 10^4 entries", turns(4096), 10_000),
+    ] {
+        let plan = walker::open(&file).expect("a plan");
+        // The first record is the loop: it always takes one more turn.
+        let entries = log_by(&plan, length, |r| Some(r == 0 || rng.chance(50)));
+        assert_eq!(entries.len(), length);
+        compare(name, &[file], &log_bytes(&entries), library::LOG, |file, room| {
+            black_box(walker::log(file, &room.choices));
+        });
+    }
+}
+
 fn main() {
     let words: Vec<String> = std::env::args().skip(1).collect();
     let wanted = |word: &str| words.is_empty() || words.iter().any(|given| given == word);
-    let services: [(&str, fn()); 6] = [
+    let services: [(&str, fn()); 7] = [
         ("open", bench_open),
         ("sums", bench_sums),
         ("check", bench_check),
         ("judge", bench_judge),
         ("run", bench_run),
         ("sheet", bench_sheet),
+        ("log", bench_log),
     ];
     if let Some(unknown) = words.iter().find(|word| services.iter().all(|(name, _)| name != word)) {
-        eprintln!("bench: no service `{unknown}`; there are open, sums, check, judge, run, sheet");
+        eprintln!("bench: no service `{unknown}`; there are open, sums, check, judge, run, sheet, log");
         std::process::exit(2);
     }
     for (name, bench) in services {

@@ -307,6 +307,11 @@ impl Flow {
 pub struct Turns(Vec<(usize, usize)>);
 
 impl Turns {
+    /// Whether all turns of the fixed loop at `r` have been taken at this visit.
+    pub fn over(&self, r: usize) -> bool {
+        self.0.last() == Some(&(r, 0))
+    }
+
     /// Where the fixed loop at `r` leads now: "Q turns", at each visit anew,
     /// "taking no choice".
     pub fn next(&mut self, plan: &Plan, flow: &Flow, r: usize) -> usize {

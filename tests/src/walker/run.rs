@@ -106,7 +106,7 @@ pub fn run_plan(plan: &Plan, memories: &mut Memories, choices: &[u8], tally: &mu
     RunEnd::Done(Done { choices_used: used, flags, arrays_current: flags.map(u32::count_ones) })
 }
 
-struct Machine<'a, 'b> {
+pub(super) struct Machine<'a, 'b> {
     plan: &'a Plan,
     memories: &'a mut Memories<'b>,
     tally: &'a mut Tally,
@@ -116,7 +116,11 @@ struct Machine<'a, 'b> {
 impl<'a, 'b> Machine<'a, 'b> {
     /// "It first writes the start into the plan's cells and the tally." Of scratch
     /// "both copies hold" never, "its flags are clear, latest is 0".
-    fn start(plan: &'a Plan, memories: &'a mut Memories<'b>, tally: &'a mut Tally) -> Machine<'a, 'b> {
+    pub(super) fn start(
+        plan: &'a Plan,
+        memories: &'a mut Memories<'b>,
+        tally: &'a mut Tally,
+    ) -> Machine<'a, 'b> {
         let cells = plan.cells();
         memories.sides[HOST][..cells].fill(0);
         memories.sides[CARD][..cells].fill(NEVER);
@@ -131,7 +135,7 @@ impl<'a, 'b> Machine<'a, 'b> {
     }
 
     /// Does a record, or changes nothing and gives its lowest unmet cell.
-    fn act(&mut self, record: &Record) -> Result<(), usize> {
+    pub(super) fn act(&mut self, record: &Record) -> Result<(), usize> {
         let (side, other) = (record.side, 1 - record.side);
         let cells = self.plan.covered(record);
         let array = 1u32 << record.array;

@@ -1,0 +1,2 @@
+-- The status of each cell of a plan, in a list.
+pub mod Inner
