@@ -13,7 +13,7 @@ BothOrders = (front back : List ℕ) → bytes_of (onto front (sums_of back)) �
 abbrev pub ThreeParts : Type 0
 ThreeParts = (front middle : List ℕ) (back : Sums) → onto front (onto middle back) ≡ onto (front ++ middle) back
 
--- CLAIM (proofs/Unpacks, `joined_Once`): the same two sums in packed form, for every cut
+-- CLAIM (proofs/Unpacks, `joined_once`): the same two sums in packed form, for every cut
 abbrev pub JoinedOnce : Type 0
 JoinedOnce = (front back : List ℕ) → packed_joined_sums front (packed_back_sums back) ≡ packed_back_sums (front ++ back)
 

@@ -1,4 +1,6 @@
 // The check sums of any bytes, and those of a front and a back from the back's sums.
+#![tactic(auto)]
+
 ghost use Rattle.std.specs.Prelude.{◌≡◌, ◌+◌, ◌*◌, ◌^◌, ◌%◌, ◌≤◌};
 ghost use Rattle.sums.specs.Sums.{plain_sum, weighted_sum};
 ghost use Rattle.check_bytes.specs.Checks.{onto};
@@ -8,7 +10,7 @@ use sums::stretches::{STRETCH, Totals, earlier, rest, rows_end, stretch};
 pub mod packing;
 
 // The two check sums.
-#[derive(Drop)]
+#[derive(Clone, Copy)]
 pub struct Sums {
     pub plain: u8,
     pub weighted: u8,

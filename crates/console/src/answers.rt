@@ -1,18 +1,20 @@
 // Answers as lines, and in words.
-use crate::page::{Page, filled, print, row};
+use crate::page::{Page, blank, filled, print, row};
+use crate::streams::Stream;
 use model::Values;
+use std::io::Result;
 
-// Writes the line of an answer, and answers whether all of it was taken: the file's kind (0 if it does not open), the answer's number, place or
+// Writes the line of an answer, or answers why not all of it was taken: the file's kind (0 if it does not open), the answer's number, place or
 // record, cell.
-pub fn print_answer(fd: i32, kind: u8, v: Values) -> bool {
-    let mut page = [0u8; 4096];
+pub fn print_answer(to: Stream, kind: u8, v: Values) -> Result<()> {
+    let mut page = blank(to);
     let at = filled(
         &mut page,
         0,
         b"# # # #|",
         &[kind as u64, v.number as u64, v.place as u64, v.cell as u64],
     );
-    print(fd, &page, at)
+    print(&page, at)
 }
 
 // The numbers that the programs give in words, those of document 01, 'Numbers by the place where each is checked', and of document 02, and behind them

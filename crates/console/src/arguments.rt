@@ -1,5 +1,7 @@
 // The arguments that are numbers.
 
+use std::env::{Env, FillError};
+
 // What is answered where a text is no number.
 pub const NO_NUMBER: u64 = u64::MAX;
 
@@ -28,9 +30,27 @@ fn number_of(s: &[u8]) -> u64 {
     n
 }
 
-// The number that argument i is; NO_NUMBER where there is no such argument.
-pub fn number_argument(i: usize) -> u64 {
-    let mut text = io::buffer();
-    let n = os::arg(i, &mut text);
-    number_of(&text[..n])
+// The number that argument i is; NO_NUMBER where there is no such argument, and where it is longer than every path.
+pub fn number_argument(env: &impl Env, i: usize) -> u64 {
+    let mut text = [0u8; 4096];
+    match env.arg(i, &mut text) {
+        Ok(n) => number_of(&text[..n]),
+        Err(_) => NO_NUMBER,
+    }
+}
+
+// Whether there is an argument i, of any length.
+fn is_argument(env: &impl Env, i: usize) -> bool {
+    let mut text = [0u8; 1];
+    !matches!(env.arg(i, &mut text), Err(FillError::NotPresent))
+}
+
+// How many arguments there are, the program's name among them.
+pub fn argument_count(env: &impl Env) -> usize {
+    for i in 0..usize::MAX {
+        if !is_argument(env, i) {
+            return i;
+        }
+    }
+    usize::MAX
 }

@@ -1,40 +1,58 @@
 // What is to be printed waits in a page, as its first `at` bytes. Each function puts more behind them and answers how many wait then; a page that is
-// full goes to standard output first. Once that fails, `at` is FAILED, and nothing more is taken.
+// full goes to its stream first. Once that fails, `at` is FAILED, and nothing more is taken.
 ghost use Rattle.std.specs.Prelude.{◌≤◌, length};
 
-use libc::STDOUT_FILENO;
+use crate::streams::{Stream, write};
+use crate::words::digits_of;
+use std::io::{Error, ErrorKind, Result, Stderr};
 
-pub type Page = [u8; 4096];
+// The bytes, the stream that they go to, and why a write failed.
+#[derive(Clone, Copy)]
+pub struct Page {
+    to: Stream,
+    bytes: [u8; 4096],
+    why: Error,
+}
 
 // More bytes than a page has.
 pub const FAILED: usize = 4097;
 
-// Writes what waits, and answers whether all of it was taken.
-pub fn print(fd: i32, page: &Page, at: usize) -> bool {
-    if 4096 < at {
-        return false;
+// A page for a stream, in which nothing waits.
+pub fn blank(to: Stream) -> Page {
+    Page {
+        to,
+        bytes: [0; 4096],
+        why: Error::from(ErrorKind::Other),
     }
-    let all: &[u8] = page;
-    io::write_all(fd, &all[..at])
 }
 
-// Writes what waits to standard output. Where a write fails, or one did before, it says so on standard error.
-pub fn finish(program: &[u8], page: &Page, at: usize) {
-    if !print(STDOUT_FILENO, page, at) {
-        crate::fail(program, b"standard output");
+// Writes what waits, or answers why not all of it was taken.
+pub fn print(page: &Page, at: usize) -> Result<()> {
+    if 4096 < at {
+        return Err(page.why);
+    }
+    let all: &[u8] = &page.bytes;
+    write(page.to, &all[..at])
+}
+
+// Writes what waits. Where a write fails, or one did before, it says so on standard error.
+pub fn finish(err: Stderr, program: &[u8], page: &Page, at: usize) {
+    if let Err(why) = print(page, at) {
+        crate::fail(err, program, b"standard output", why);
     }
 }
 
 // One byte.
 fn byte(page: &mut Page, at: usize, b: u8) -> usize {
     if at < 4096 {
-        page[at] = b;
+        page.bytes[at] = b;
         return at + 1;
     }
-    if !print(STDOUT_FILENO, page, at) {
+    if let Err(why) = print(page, at) {
+        page.why = why;
         return FAILED;
     }
-    page[0] = b;
+    page.bytes[0] = b;
     1
 }
 
@@ -63,9 +81,8 @@ pub fn indent(page: &mut Page, at: usize, level: usize) -> usize {
 
 // A number in decimal.
 fn number(page: &mut Page, at: usize, n: u64) -> usize {
-    let mut digits = [0u8; 20];
-    let k = io::decimal(n, &mut digits);
-    text(page, at, &digits[..k])
+    let digits = digits_of(n);
+    text(page, at, digits.text())
 }
 
 // What stands for a byte of a text: number i for `#`, where there is such a number, and the end of the line for `|`.

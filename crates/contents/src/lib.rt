@@ -1,4 +1,6 @@
 // Numbers 3 to 5, the contents, and numbers 1 to 7 together.
+#![tactic(auto)]
+
 ghost use Rattle.std.specs.Prelude.{◌≡◌, true, cond, ◌+◌, ◌≤◌, ◌<◌, length};
 ghost use Rattle.model.specs.declared.Verdict.TheVariants.{Accepted, Refused};
 ghost use Rattle.model.specs.Rows.{answer_of, all_rows};
@@ -13,7 +15,7 @@ use reading::kinds::{MOST_CELLS, MOST_RECORDS, NAMES, STARTS};
 use reading::{byte, entry_at, length_at, number_at};
 
 // What opening gives: the answer, and what was found in a file that opens.
-#[derive(Drop)]
+#[derive(Clone, Copy)]
 pub struct Opened {
     pub verdict: Verdict,
     pub kind: u8,
@@ -28,7 +30,7 @@ pub struct Opened {
 }
 
 // What the arrays' entries give: number 4 or the cells, with the first cell of each array.
-#[derive(Drop)]
+#[derive(Clone, Copy)]
 pub struct Arrays {
     pub verdict: Verdict,
     pub cells: u16,
@@ -36,7 +38,7 @@ pub struct Arrays {
 }
 
 // What one body's entry gives: whether number 5 leaves it, its records and its declarations.
-#[derive(Drop)]
+#[derive(Clone, Copy)]
 struct Entry {
     fits: bool,
     records: u16,
@@ -44,7 +46,7 @@ struct Entry {
 }
 
 // What the bodies' entries give: number 5 or the records, with the first record and the declarations of each body.
-#[derive(Drop)]
+#[derive(Clone, Copy)]
 pub struct Bodies {
     pub verdict: Verdict,
     pub records: u16,

@@ -1,1 +1,2 @@
 // The file of a plan: definitions and theorems alone, no code.
+#![tactic(auto)]

@@ -1,4 +1,6 @@
 // The plan file: opening it, and the view of a body.
+#![tactic(auto)]
+
 ghost use Rattle.std.specs.Prelude.{◌≡◌, ◌+◌, ◌≤◌, length};
 ghost use Rattle.format.specs.Opening.{opened};
 ghost use Rattle.format.specs.Views.{body_view_answer, body_at, body_view, body_part};

@@ -1,4 +1,6 @@
 // Numbers 1, 2, 6 and 7: the header and the tail.
+#![tactic(auto)]
+
 ghost use Rattle.std.specs.Prelude.{◌≡◌, List, ℕ, ◌≤◌};
 ghost use Rattle.model.specs.Rows.{answer_of};
 ghost use Rattle.reading.specs.Bytes.{byte_at, kind_of, array_count, body_count, record_count, bodies_at};
@@ -21,6 +23,7 @@ fn header_fits(kind: u8, arrays: u8, bodies: u8, zero: u8) -> bool
 }
 
 // Numbers 1 and 2.
+#[tactic(auto, using(crate::proofs::Frame::short_stop))]
 pub fn header(plan: &[u8]) -> Verdict
     ensures { result ≡ answer_of (header_rows plan.now) }
 {

@@ -1,4 +1,6 @@
 // What a run knows of its cells, so that it need not compare them again.
+#![tactic(auto)]
+
 ghost use Rattle.std.specs.Prelude.{◌≡◌, true, ◌&&◌, List, ℕ, ◌<◌, eqb};
 ghost use Rattle.memories.specs.Inner.Ranges.{AllCurrent, of_side};
 ghost use Rattle.known.specs.Inner.Knowing.{known_in, at_start, Sure, Added, Wrote, Copied};
@@ -7,7 +9,7 @@ use memories::flags::{flag_set, with_flag, without_flag};
 
 // The arrays all of whose cells are known to be current on the host, and those on the card: bit a is array a. Two numbers and no more: they go through each step
 // of a run with the machine.
-#[derive(Drop)]
+#[derive(Clone, Copy)]
 pub struct Known {
     pub host: u64,
     pub card: u64,

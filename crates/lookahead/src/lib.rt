@@ -1,4 +1,6 @@
 // The records that concern a cell: those that cover it, and the branches and loops that hold one which does. A walk for the cell passes all others by.
+#![tactic(auto)]
+
 ghost use Rattle.std.specs.Prelude.{◌≡◌, ◌<◌};
 ghost use Rattle.model.specs.Records.{distance, stepped};
 ghost use Rattle.reading.specs.Bytes.{record_count};

@@ -1,5 +1,7 @@
 // The cells `from` up to `to` of a lent memory, or those of them at a step: the first stale one, putting a stamp in them, copying them; the same of whichever side is meant.
 // A step is the byte of a record, 0 and 1 mean each cell: to make a distance of it before each record would cost a tenth of a record of one cell.
+#![tactic(auto)]
+
 ghost use Rattle.std.specs.Prelude.{◌≡◌, true, ◌+◌, ◌≤◌, ◌<◌, length, get_or};
 ghost use Rattle.model.specs.Records.{distance};
 ghost use Rattle.memories.specs.Inner.Ranges.{Room, AllCurrent, CurrentTo, Passed, FirstStale, Changed, of_side, ChangedOn};

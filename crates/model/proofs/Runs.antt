@@ -1,4 +1,4 @@
--- Steps of a run and of a carried_on run: a run is a carried_on run, and what every executed record keeps holds along both.
+-- Steps of a run and of a carried-on run: a run is a carried-on run, and what every executed record keeps holds along both.
 use Prim.Native.Nat.{ℕ, zero, suc}
 use mathlib.Core.Path.{◌≡◌, refl, sym, ◌∙◌, subst}
 use mathlib.Core.List.{List, [], ◌∷◌}

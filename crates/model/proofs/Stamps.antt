@@ -99,7 +99,7 @@ past_effect layout x σ p = go (write_or_quiet x σ)
     go (inl q) = from_cells (effect layout x σ) (λ c. rw q (old_cell (suc σ.writes) (covers layout (as_verb write x) c) _ _ (old_put σ.writes x.side (σ.cell c) (cell c)) (later c)))
     go (inr (e, q)) = from_cells (effect layout x σ) (λ c. rw e (old_cell σ.writes (covers layout x c) _ _ (old_quiet σ.writes _ (deed x σ) (σ.cell c) q (cell c)) (cell c)))
 
--- at every moment of a run, and of a carried_on run
+-- at every moment of a run, and of a carried-on run
 pub past : (plan : Plan) {cs : List Bool} {k : Config} → Run carried_on plan cs k → Past k.state
 past plan h = along carried_on plan (λ σ l. Past σ) (past_start plan.layout) (λ r x σ l u. past_effect plan.layout x σ) h
 

@@ -1,4 +1,4 @@
--- A carried_on run stops somewhere exactly if a run gets stuck.
+-- A carried-on run stops somewhere exactly if a run gets stuck.
 use Prim.Native.Nat.{ℕ}
 use mathlib.Core.Path.{◌≡◌, refl, sym, ◌∙◌}
 use mathlib.Core.Logic.{◌⊎◌, inl, inr}
@@ -25,7 +25,7 @@ record Stuck (plan : Plan) : Type 0 where
   ends : Ends plan choices config (stopped number cell)
 
 module _ (plan : Plan) where
-  -- a carried_on run is a run, or a run on the same choices gets stuck
+  -- a carried-on run is a run, or a run on the same choices gets stuck
   run_on : (b : Block Action) (cs : List Bool) (σ : State) (l : List Event) {ds : List Bool} (k : Config) →
       Run proper plan ds (config b cs σ l) → step carried_on plan.layout (config b cs σ l) ≡ next k → Run proper plan ds k ⊎ Stuck plan
   run_on done cs σ l k h e = inl (onward h e)

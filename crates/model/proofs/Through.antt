@@ -1,4 +1,4 @@
--- The ways that one cell can take through a block, by its status, and that they are those of the carried_on runs.
+-- The ways that one cell can take through a block, by its status, and that they are those of the carried-on runs.
 use Prim.Native.Nat.{ℕ, zero, suc, ◌≤◌, ◌<◌}
 use mathlib.Core.Path.{◌≡◌, refl, ap, sym, ◌∙◌}
 use mathlib.Core.Logic.{◌⊎◌, inl, inr}
@@ -17,7 +17,7 @@ pub use Rattle.model.specs.Inner.Stops.{Star, stay, more, Power, Within, Goes, S
 use Rattle.model.proofs.Status.{Status, status_of, met_in, status_after, met_status, status_effect}
 
 module _ (layout : Layout) (c : ℕ) where
-  -- every stop of a carried_on run is one of these: from the stop back to the start
+  -- every stop of a carried-on run is one of these: from the stop back to the start
   module _ (r : ℕ) where
     -- a stop in x, or after it in b
     abbrev InOrAfter : Block Action → Block Action → Status → Type 0
@@ -70,7 +70,7 @@ module _ (layout : Layout) (c : ℕ) where
     stops_before (fixed q n x b) cs σ l k p e =
         rw (← next_same _ k (sym (step_turn layout carried_on q n x b cs σ l) ∙ e)) (stops_turn q n x b (status_of layout c σ))
 
-  -- each of these is a stop of some carried_on run: the choices are built from the last one to the first
+  -- each of these is a stop of some carried-on run: the choices are built from the last one to the first
   module _ (r : ℕ) where
     -- with b left, some choices lead to a stop at record r
     record CanStop (b : Block Action) (σ : State) (l : List Event) : Type 0 where

@@ -8,7 +8,7 @@ use Rattle.model.specs.Effects.{met}
 use Rattle.model.specs.Blocks.{Block, act, Plan}
 use Rattle.model.specs.Runs.{Config, carried_on, Run}
 
--- "an unmet record counts as stopping at each unmet cell": some carried_on run stops at record r in cell c
+-- "an unmet record counts as stopping at each unmet cell": some carried-on run stops at record r in cell c
 pub record MayStop (plan : Plan) (r c : ℕ) : Type 0 where
   pub cell : c < cell_count plan.layout
   pub choices : List Bool
@@ -19,7 +19,7 @@ pub record MayStop (plan : Plan) (r c : ℕ) : Type 0 where
   pub left : config.left ≡ act r action rest
   pub unmet : met plan.layout action config.state c ≡ false
 
--- "The named record is the lowest at which some carried_on run stops, and the cell is the lowest that stops there in some run."
+-- "The named record is the lowest at which some carried-on run stops, and the cell is the lowest that stops there in some run."
 abbrev pub Answers : Plan → Verdict → Type 0
 Answers plan Accepted = (r c : ℕ) → MayStop plan r c → ⊥
 Answers plan (Stopped r c) =

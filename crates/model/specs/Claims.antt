@@ -29,7 +29,7 @@ ClaimCovers = (layout : Layout) (x : Action) →
     (cover_count layout x ≡ (x.q - x.p + (k - 1)) / k)
     × ((c : ℕ) → (covers layout x c ≡ true) ↔ ((i : ℕ) × (c ≡ these.first + x.p + i * k) × (c < these.first + x.q)))
 
--- CLAIM (proofs/Stamps, `latest_tracked`): in every carried_on run a cell's latest stamp is that of its latest write
+-- CLAIM (proofs/Stamps, `latest_tracked`): in every carried-on run a cell's latest stamp is that of its latest write
 abbrev pub ClaimLatest : Type 0
 ClaimLatest = (plan : Plan) (cs : List Bool) (k : Config) → Run carried_on plan cs k →
     (c : ℕ) → (k.state.cell c).latest ≡ latest_write plan.layout k.history c
@@ -39,7 +39,7 @@ abbrev pub ClaimFresh : Type 0
 ClaimFresh = (plan : Plan) (cs : List Bool) (k : Config) → Run carried_on plan cs k →
     (s : Side) (c : ℕ) → (k.state.cell c).held s ≡ at (suc k.state.writes) → ⊥
 
--- CLAIM (proofs/Runs, `proper_carried`): what a run comes to, the carried_on run comes to
+-- CLAIM (proofs/Runs, `proper_carried`): what a run comes to, the carried-on run comes to
 abbrev pub ClaimCarried : Type 0
 ClaimCarried = (plan : Plan) (cs : List Bool) (k : Config) → Run proper plan cs k → Run carried_on plan cs k
 

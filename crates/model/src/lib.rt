@@ -1,21 +1,23 @@
 // The numbers and the answers of document 01, which every layer above names.
+#![tactic(auto)]
+
 ghost use Rattle.std.specs.Prelude.{◌≡◌};
 ghost use Rattle.model.specs.Verdicts.{values_of};
 
 // A cell's number, counted through all arrays.
-#[derive(Drop)]
+#[derive(Clone, Copy)]
 pub struct Cell(pub u16);
 
 // A record's number, counted through all bodies.
-#[derive(Drop)]
+#[derive(Clone, Copy)]
 pub struct Record(pub u16);
 
 // An array's number.
-#[derive(Drop)]
+#[derive(Clone, Copy)]
 pub struct Array(pub u16);
 
 // An answer: accepted, stopped at a record in a cell, or refused with a number and a place.
-#[derive(Drop)]
+#[derive(Clone, Copy)]
 pub enum Verdict {
     Accepted,
     Stopped(Record, Cell),
@@ -23,7 +25,7 @@ pub enum Verdict {
 }
 
 // What is reported of an answer: its number, its place or record, its cell.
-#[derive(Drop)]
+#[derive(Clone, Copy)]
 pub struct Values {
     pub number: u8,
     pub place: u16,
@@ -31,7 +33,7 @@ pub struct Values {
 }
 
 // The tally of a run: read records, write records, cells moved.
-#[derive(Drop)]
+#[derive(Clone, Copy)]
 pub struct Tally {
     pub reads: u64,
     pub writes: u64,
@@ -39,7 +41,7 @@ pub struct Tally {
 }
 
 // An answer with a part of the caller's bytes, where it is accepted: where it begins and its length.
-#[derive(Drop)]
+#[derive(Clone, Copy)]
 pub struct Part {
     pub verdict: Verdict,
     pub from: u16,
@@ -47,21 +49,21 @@ pub struct Part {
 }
 
 // An answer with the length of an expansion's file, where it is accepted.
-#[derive(Drop)]
+#[derive(Clone, Copy)]
 pub struct Length {
     pub verdict: Verdict,
     pub bytes: u32,
 }
 
 // An answer with the side that a part of a memory is of, where it is accepted.
-#[derive(Drop)]
+#[derive(Clone, Copy)]
 pub struct View {
     pub verdict: Verdict,
     pub side: u8,
 }
 
 // A run's answer; the figures are those of a run that is done, 0 otherwise.
-#[derive(Drop)]
+#[derive(Clone, Copy)]
 pub struct End {
     pub verdict: Verdict,
     pub used: u32,

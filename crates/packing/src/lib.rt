@@ -1,4 +1,6 @@
 // Answers packed into 64 bits, for callers in C and Rust.
+#![tactic(auto)]
+
 ghost use Rattle.std.specs.Prelude.{◌≡◌};
 ghost use Rattle.packing.specs.Packed.{packed, packed_answer, packed_part, packed_length, packed_view, figures_of};
 
@@ -15,6 +17,7 @@ fn pack(kind: u8, v: Values) -> u64
 }
 
 // An answer about a file of this kind; a stop has the number `stop`.
+#[tactic(auto, unfolding(crate::specs::Packed::packed_answer))]
 pub fn pack_answer(kind: u8, v: Verdict, stop: u8) -> u64
     ensures { result ≡ packed_answer kind stop v }
 {
@@ -65,6 +68,7 @@ pub fn pack_view(view: View) -> u64
 }
 
 // The figures of a run that is done.
+#[tactic(auto, using(crate::proofs::Figures::figures_put, crate::proofs::Figures::figures_kept))]
 pub fn put_figures(e: End, figures: &mut [u64; 5])
     ensures { figures.new ≡ figures_of e figures.old }
 {

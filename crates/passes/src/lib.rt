@@ -1,11 +1,13 @@
 // Where a pass stands in the file, by what opening found.
+#![tactic(auto)]
+
 ghost use Rattle.std.specs.Prelude.{◌≡◌, ◌+◌, ◌≤◌, ◌<◌, get_or};
 ghost use Rattle.passes.specs.Inner.Passes.{extent_of};
 
 use contents::Opened;
 
 // Where a pass stands: where the bodies begin in the file, its body's number, its first record, how many declarations it has and how many records with them.
-#[derive(Drop)]
+#[derive(Clone, Copy)]
 pub struct Extent {
     pub bodies: usize,
     pub body: usize,

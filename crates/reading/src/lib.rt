@@ -1,4 +1,6 @@
 // Reading a plan file: its bytes, its numbers of two bytes, the fields of a record.
+#![tactic(auto)]
+
 ghost use Rattle.std.specs.Prelude.{◌≡◌, ◌+◌, ◌*◌, ◌≤◌, ◌<◌, length, get_or};
 ghost use Rattle.reading.specs.Bytes.{byte_at, u16_at, length_at, scratch_at, entry_at, bodies_at, fields_at, nests, first_arm, second_arm, turns_of};
 ghost use Rattle.reading.specs.Inner.Cells.{from_of, to_of, step_of};
@@ -8,7 +10,7 @@ use kinds::{BRANCH, COPY, FIXED, LOOP, SCRATCH, STARTS};
 pub mod kinds;
 
 // A record's eight bytes.
-#[derive(Drop)]
+#[derive(Clone, Copy)]
 pub struct Fields {
     pub kind: u8,
     pub side: u8,
@@ -26,6 +28,7 @@ pub fn byte(s: &[u8], at: usize) -> u8
 }
 
 // A byte of the header, in a plan that has its contents.
+#[tactic(auto, unfolding(crate::specs::Bytes::entry_at))]
 pub fn header_byte(plan: &[u8], at: usize) -> u8
     requires { (at < 4) × (bodies_at plan.now ≤ length plan.now) }
     ensures { result ≡ byte_at plan.now at }
@@ -34,6 +37,7 @@ pub fn header_byte(plan: &[u8], at: usize) -> u8
 }
 
 // Where the entry of a body stands in the contents; the bodies begin where the entry after the last would.
+#[tactic(auto, unfolding(crate::specs::Bytes::entry_at))]
 pub fn entry_at(plan: &[u8], body: usize) -> usize
     requires { body < 256 }
     ensures place { result ≡ entry_at plan.now body }
@@ -50,6 +54,7 @@ fn wide(b: u8) -> u16
 }
 
 // The number of two bytes at a place inside the plan, the low byte first.
+#[tactic(auto, unfolding(crate::specs::Bytes::u16_at))]
 pub fn number_at(plan: &[u8], at: usize) -> u16
     requires { at + 2 ≤ length plan.now }
     ensures { result ≡ u16_at plan.now at }
@@ -58,6 +63,7 @@ pub fn number_at(plan: &[u8], at: usize) -> u16
 }
 
 // The length of an array whose entry stands inside the plan: without the bit that marks scratch.
+#[tactic(auto, unfolding(crate::specs::Bytes::length_at))]
 pub fn length_at(plan: &[u8], a: usize) -> u16
     requires { 4 + 2 * a + 2 ≤ length plan.now }
     ensures { result ≡ length_at plan.now a }
@@ -66,6 +72,7 @@ pub fn length_at(plan: &[u8], a: usize) -> u16
 }
 
 // Whether that array is scratch.
+#[tactic(auto, unfolding(crate::specs::Bytes::scratch_at))]
 pub fn scratch_at(plan: &[u8], a: usize) -> bool
     requires { 4 + 2 * a + 2 ≤ length plan.now }
     ensures { result ≡ scratch_at plan.now a }
@@ -74,6 +81,7 @@ pub fn scratch_at(plan: &[u8], a: usize) -> bool
 }
 
 // The fields of record r, which stands inside a plan whose bodies begin at `bodies`.
+#[tactic(auto, unfolding(crate::specs::Bytes::fields_at))]
 pub fn record_at(plan: &[u8], bodies: usize, r: usize) -> Fields
     requires { (bodies ≡ bodies_at plan.now) × (bodies + 8 * r + 8 ≤ length plan.now) }
     ensures { result ≡ fields_at plan.now r }
@@ -97,6 +105,7 @@ pub fn nests(x: Fields) -> bool
 }
 
 // How many records the first arm has, none where the kind has no such arm.
+#[tactic(auto, unfolding(crate::specs::Bytes::first_arm))]
 pub fn first_arm(x: Fields) -> usize
     ensures arm { result ≡ first_arm x }
     ensures low { result < 65536 }
@@ -105,6 +114,7 @@ pub fn first_arm(x: Fields) -> usize
 }
 
 // How many records the second arm has.
+#[tactic(auto, unfolding(crate::specs::Bytes::second_arm))]
 pub fn second_arm(x: Fields) -> usize
     ensures arm { result ≡ second_arm x }
     ensures low { result < 65536 }
@@ -113,6 +123,7 @@ pub fn second_arm(x: Fields) -> usize
 }
 
 // How many turns a fixed loop has; any other record counts 1.
+#[tactic(auto, unfolding(crate::specs::Bytes::turns_of))]
 pub fn turns_of(x: Fields) -> usize
     ensures turns { result ≡ turns_of x }
     ensures low { result < 65536 }
@@ -121,7 +132,7 @@ pub fn turns_of(x: Fields) -> usize
 }
 
 // The cells of a record: the first, the one after the last, and how far apart they are.
-#[derive(Drop)]
+#[derive(Clone, Copy)]
 pub struct Span {
     pub from: usize,
     pub to: usize,

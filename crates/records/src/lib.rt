@@ -1,4 +1,6 @@
 // Numbers 8 to 10 and 26: the records of all bodies.
+#![tactic(auto)]
+
 ghost use Rattle.std.specs.Prelude.{◌≡◌, ℕ, ◌+◌, ◌≤◌};
 ghost use Rattle.model.specs.declared.Verdict.TheVariants.{Accepted};
 ghost use Rattle.model.specs.Rows.{answer_of, all_rows};

@@ -1,4 +1,6 @@
 // Numbers 8 to 10 and 26 of one record.
+#![tactic(auto)]
+
 ghost use Rattle.std.specs.Prelude.{◌≡◌, ◌+◌, ◌≤◌, ◌<◌, length};
 ghost use Rattle.model.specs.Rows.{answer_of};
 ghost use Rattle.reading.specs.Bytes.{array_count, length_at, declarations_in, first_record, bodies_at, fields_at};

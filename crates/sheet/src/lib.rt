@@ -1,4 +1,6 @@
 // Exercise sheets: how many of the short sequences over one cell stop at each place, and how many pass.
+#![tactic(auto)]
+
 ghost use Rattle.std.specs.Prelude.{◌≡◌, ◌+◌, ◌*◌, ◌^◌, ◌≤◌, ◌<◌, length};
 ghost use Rattle.sheet.specs.Sheets.{sheet_answer, sheet_figures};
 
@@ -11,7 +13,7 @@ pub const LONGEST: u64 = 24;
 pub const FIGURES: usize = 25;
 
 // Of the sequences so far that pass: how many leave the cell current on one side, and how many on both.
-#[derive(Drop)]
+#[derive(Clone, Copy)]
 struct Passed {
     one: u64,
     both: u64,

@@ -18,7 +18,7 @@ pub fn start_of(scratch: bool) -> usize
 }
 
 // The statuses that can be reached, and the lowest record at which the cell can stop, NONE if there is none.
-#[derive(Drop)]
+#[derive(Clone, Copy)]
 pub struct Found {
     pub set: u16,
     pub low: u16,
@@ -42,7 +42,7 @@ const AFTER: [u64; 10] = [
 const UNMET: [u16; 10] = [0x00ff, 0x0f0f, 0, 0, 0x0f0f, 0x00ff, 0x0303, 0x0055, 0, 0];
 
 // The status after a record, and whether the record stops the cell.
-#[derive(Drop)]
+#[derive(Clone, Copy)]
 pub struct Step {
     pub after: usize,
     pub stops: bool,

@@ -14,14 +14,14 @@ pub const STRETCH: usize = 45056;
 pub const FEW: usize = 128;
 
 // Sums of columns: of the bytes, and of each byte times the number of its row from 1.
-#[derive(Drop)]
+#[derive(Clone, Copy)]
 pub struct Band {
     pub plain: [u16; ROW],
     pub weighted: [u16; ROW],
 }
 
 // Sums of which no remainder is taken yet.
-#[derive(Drop)]
+#[derive(Clone, Copy)]
 pub struct Totals {
     pub plain: u64,
     pub weighted: u64,

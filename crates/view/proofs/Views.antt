@@ -134,3 +134,7 @@ module _ (host card latest : List ℕ) (from end : ℕ) where
 
       pub place_card : (h k : ℕ × ℕ) → (r.side ≡ 0 → ⊥) → (k.0, from * 8 + k.1) ≡ viewed_place h k (viewed_side host latest from end) from
       place_card h k s = rw (side_of, ne_eqb r.side 0 s) (ap (λ n. (k.0, n)) (omega arith))
+
+-- an accepted view lies inside every memory
+pub accepted_inside : (host card latest : List ℕ) (from end : ℕ) (r : View) → r ≡ memory_side host card latest from end → r.verdict ≡ Accepted → Inside host card latest from end
+accepted_inside host card latest from end r q e = part_inside host card latest from end (sym e ∙ answer_of host card latest from end r q)

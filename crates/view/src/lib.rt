@@ -1,4 +1,6 @@
 // The memory view: a part of whichever memory is wholly current.
+#![tactic(auto)]
+
 ghost use Rattle.std.specs.Prelude.{◌≡◌, ◌-◌, ◌≤◌, min, length};
 ghost use Rattle.view.specs.Viewing.{all_current, memory_view_answer, viewed_side, viewed_place, memory_view, memory_side};
 
@@ -13,6 +15,7 @@ fn shorter(a: usize, b: usize) -> usize
 }
 
 // Whether the cells `from` up to `end` are all current in a memory.
+#[tactic(auto, using(crate::proofs::Views::no_stale))]
 fn all_current(copies: &[u64], latest: &[u64], from: usize, end: usize) -> bool
     requires { (from ≤ end) × (end ≤ length copies.now) × (end ≤ length latest.now) }
     ensures { result ≡ all_current copies.now latest.now from (end - from) }
@@ -52,6 +55,7 @@ pub fn memory_side(host: &[u64], card: &[u64], latest: &[u64], first: u64, end: 
 }
 
 // The memory view's answer: accepted, 23 or 24.
+#[tactic(auto, using(crate::proofs::Views::answer_of))]
 pub fn memory_view_answer(
     host: &[u64],
     card: &[u64],
@@ -66,6 +70,7 @@ pub fn memory_view_answer(
 }
 
 // The cells `first` up to `end` as a part of the host memory if they are all current there, else of the card memory; empty where the answer refuses.
+#[tactic(auto, using(crate::proofs::Views::accepted_inside))]
 pub fn memory_view<'a>(
     host: &'a [u64],
     card: &'a [u64],

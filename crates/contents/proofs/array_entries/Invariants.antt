@@ -1,0 +1,29 @@
+use mathlib.Core.Path.{◌≡◌, sym, ◌∙◌}
+use mathlib.Core.Logic.{⊎_elim}
+use mathlib.Core.Bool.{cond}
+use Prim.Native.Nat.{◌-◌, ◌≤◌}
+use native.Mathlib.Omega.{arith}
+use lib.Dec.{leb}
+use lib.ListN.{length}
+use Rattle.model.specs.Lists.{sum_before}
+use Rattle.model.specs.declared.Verdict.TheVariants.{Accepted}
+use Rattle.model.specs.Sides.{span_of}
+use Rattle.model.specs.Rows.{answer_of, all_rows}
+use Rattle.reading.specs.Bytes.{table, layout_of, entry_at, lengths_of}
+use Rattle.contents.specs.Contents.{array_rows}
+use Rattle.model.proofs.Rows.{each_none, each_more}
+use Rattle.reading.proofs.Tables.{filled_first, filled_next, first_zero, all_cells}
+use Rattle.contents.proofs.Entries.{Walked, walk_ends, walk_stops, ArrayEntry, cells_more, array_stop, array_pass}
+use Rattle.contents.proofs.array_entries.Given as goal
+
+abbrev pub invariant-loop-a : goal.invariant-loop-a
+invariant-loop-a l =
+    (l.a ≤ l.arrays)
+    × (l.cells ≡ (span_of (layout_of l.plan) l.a).first)
+    × (l.cells ≤ 4096)
+    × (Accepted ≡ answer_of (all_rows l.a (array_rows l.plan)))
+    × (length l.starts ≡ 33)
+    × (l.starts ≡ table (λ k. cond (leb k l.a) (span_of (layout_of l.plan) k).first 0) 33)
+
+abbrev pub decreases-loop-a : goal.decreases-loop-a
+decreases-loop-a l = l.arrays - l.a

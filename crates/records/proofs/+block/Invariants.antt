@@ -1,0 +1,18 @@
+use mathlib.Core.Path.{sym, ap, ◌∙◌}
+use native.Mathlib.Omega.{arith}
+use Rattle.model.specs.declared.Verdict.{Verdict}
+use Rattle.model.specs.declared.Verdict.TheVariants.{Accepted}
+use Rattle.reading.specs.Bytes.{nests, first_arm, second_arm, turns_of}
+use Rattle.model.proofs.Rows.{turned}
+use Rattle.records.proofs.Records.{Answers, at_end, at_record, Passes, inside, few, at_first, at_second, at_next, at_leaf}
+use Prim.Native.Nat.{ℕ, ◌+◌, ◌-◌, ◌*◌, ◌≤◌, ◌<◌}
+use Rattle.records.proofs.+block.Given as goal
+
+abbrev pub decreases-block : goal.decreases-block
+decreases-block l = l.end - l.from
+
+abbrev pub invariant-loop-r : goal.invariant-loop-r
+invariant-loop-r l = (l.from ≤ l.r) × (l.r ≤ l.end) × ((v : Verdict) → Answers l.plan l.body l.depth l.around l.r l.end v → Answers l.plan l.body l.depth l.around l.from l.end v)
+
+abbrev pub decreases-loop-r : goal.decreases-loop-r
+decreases-loop-r l = l.end - l.r

@@ -1,0 +1,29 @@
+-- One byte more in front: it adds one to the number of each after it.
+use Rattle.std.proofs.Common.{◌-◌, ◌∙◌, refl, ap, arith}
+use Rattle.sums.specs.Sums.{plain_sum, weighted_sum}
+use Rattle.sums.proofs.Parts.{plain_none, weighted_none, plain_next, weighted_next, all}
+use Rattle.sums.proofs.stretches.rest.Goals as goal
+
+pub loop-i-init : goal.loop-i-init
+loop-i-init c =
+    record {
+      within = omega arith;
+      plain_so_far = plain_none c.args.x.now _ refl;
+      weighted_so_far = weighted_none c.args.x.now _ refl;
+      plain_low = omega arith;
+      weighted_low = omega arith;
+    }
+
+pub loop-i-preserved : goal.loop-i-preserved
+loop-i-preserved c =
+    let l = c.loop-i in
+    let p = plain_next c.args.x.now l.i (omega arith) (omega arith) in
+    let q = weighted_next c.args.x.now l.i (omega arith) (omega arith) in
+    let k = c.type_inv.x (l.i - 1) in
+    record { within = omega arith; plain_so_far = omega arith; weighted_so_far = omega arith; plain_low = omega arith; weighted_low = omega arith }
+
+pub returns : goal.returns
+returns c =
+    let l = c.loop-i in
+    let e = all _ l.i (omega arith) in
+    record { plain = l.invariant.plain_so_far ∙ ap plain_sum e; weighted = l.invariant.weighted_so_far ∙ ap (weighted_sum 1) e; low = (omega arith, omega arith) }
