@@ -23,7 +23,7 @@ def functions(crate):
 def main():
     if sys.argv[1:] not in ([], ['--files']):
         sys.exit(__doc__)
-    crates = [l.split(':')[0] for l in open('crates.txt') if ':' in l and not l.startswith('#')]
+    crates = [l.split(':')[0].split()[0] for l in open('crates.txt') if ':' in l and not l.startswith('#')]
     print(f'{"crate":12} lines files functions edits')
     total, all_files, some = 0, 0, 0
     for crate in crates:

@@ -1,5 +1,7 @@
 #!/usr/bin/env python3
-"""Fills the needs of a proof file that tools/skeleton.py has written.
+"""For proofs of the older form; nothing here uses it now.
+
+Fills the needs of a proof file that tools/skeleton.py has written.
 
     python3 tools/fill.py PROOF DESCRIPTION     both are files; PROOF is written anew
 

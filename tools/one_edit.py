@@ -1,5 +1,7 @@
 #!/usr/bin/env python3
-"""Tries edits of one crate alone, and prints why the prover refuses each: the fact that fails should be the edit's own.
+"""For the older kit; nothing here uses it now: `rt must-fail NAME` tries the edits of one crate and prints why each is refused.
+
+Tries edits of one crate alone, and prints why the prover refuses each: the fact that fails should be the edit's own.
 
     python3 tools/one_edit.py NAME [EDIT..]     from the repository's root, after `rt check` of what the crate rests on; all its edits if none is named
 

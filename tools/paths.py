@@ -1,5 +1,7 @@
 #!/usr/bin/env python3
-"""Prints, for each need of a function, the path to each fact that is known there (`c .before×2 .loop{i,inv}` ..).
+"""For proofs of the older form; nothing here uses it now. What is known at a goal is printed by `rt check --start F --allow-holes`.
+
+Prints, for each need of a function, the path to each fact that is known there (`c .before×2 .loop{i,inv}` ..).
 
     rt dev NAME --generated target/gen
     python3 tools/paths.py NAME FUNCTION [NEED]     FUNCTION is its folder of proofs, NEED a regular expression

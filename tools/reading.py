@@ -14,14 +14,14 @@ import re
 import subprocess
 import sys
 
-WORD = re.compile(r"[^\s(){}\[\],;.λ⌜⌝:=→]+")
+WORD = re.compile(r"[^\s(){}\[\],;.λ:=→]+")
 
 
 def imports(lines, crate):
     """The names that a file takes from modules of specs: name -> (crate, module)."""
     found = {}
     for line in lines:
-        m = re.match(r'\s*(?:pub |ghost )*use Rattle·(\w+?)(?:·specs)?\.specs\.([\w.-]+?)(?:\.\{(.*)\}| as (\S+?))?;?$', line)
+        m = re.match(r'\s*(?:pub |ghost )*use Rattle\.(\w+)\.specs\.([\w.]+?)(?:\.\{(.*)\}| as (\S+?))?;?$', line)
         if m:
             names = [n.strip().split(' as ')[-1].strip() for n in (m.group(3) or '').split(',') if n.strip()]
             for name in names + ([m.group(4)] if m.group(4) else []):
@@ -64,7 +64,7 @@ class Module:
 def modules():
     """The modules outside Inner in reading order: crates as in crates.txt, the modules of each as in its Lib."""
     found = {}
-    for crate in [l.split(':')[0] for l in open('crates.txt') if ':' in l and not l.startswith('#')]:
+    for crate in [l.split(':')[0].split()[0] for l in open('crates.txt') if ':' in l and not l.startswith('#')]:
         lib = f'crates/{crate}/specs/Lib.antt'
         for name in re.findall(r'^pub mod (\w+)', open(lib).read(), re.M) if os.path.exists(lib) else []:
             if name != 'Inner':
@@ -76,9 +76,8 @@ def words(lines):
     for line in lines:
         for word in WORD.findall(re.sub(r'--.*', '', line)):
             yield word
-            for part in word.split('_'):
-                if part:
-                    yield '_' + part + '_'
+            # an operator is imported as `◌then◌`, and used without the rings
+            yield '◌' + word + '◌'
 
 
 def reach(every, at, name, seen, order):
@@ -111,7 +110,8 @@ def contract(crate, function):
         for i, line in enumerate(lines):
             if re.match(r'\s*(pub )?(extern "C" )?fn %s\b' % re.escape(function), line):
                 end = next(j for j in range(i, len(lines)) if lines[j].startswith('{') or lines[j].endswith(' {'))
-                return path, [l for l in lines[i:end] if re.match(r'\s*(requires|ensures)', l)], imports(lines, crate)
+                clauses = (re.match(r'\s*(?:requires|ensures)(?: \w+)? \{(.*)', l) for l in lines[i:end])
+                return path, [m.group(1) for m in clauses if m], imports(lines, crate)
     return None
 
 
@@ -137,11 +137,8 @@ def lines_of(every, at, parts):
 
 
 ENTRIES = [('format', 'open'), ('format', 'body_view'), ('format', 'body_view_answer'), ('checker', 'check'), ('judge', 'judge'), ('expand', 'expand'),
-           ('expand', 'expansion_length'), ('run', 'run'), ('counting', 'run_counting'), ('view', 'memory_view'), ('view', 'memory_view_answer'), ('logs', 'log'), ('logs', 'begin'), ('logs', 'follow'),
-           ('logs', 'conclude'), ('sheet', 'sheet'),
-           ('check_bytes', 'check_sums'), ('check_bytes', 'joined_sums'), ('plancheck', 'line_of'), ('planexpand', 'expansion_of'), ('report', 'report_of'),
-           ('report', 'seen_after'), ('report', 'cells_after'), ('loglines', 'line_before'), ('loglines', 'first_progress'), ('loglines', 'after_part'),
-           ('loglines', 'line_after'), ('planlog', 'log_line')]
+           ('expand', 'expansion_length'), ('run', 'run'), ('view', 'memory_view'), ('view', 'memory_view_answer'), ('logs', 'log'), ('sheet', 'sheet'),
+           ('check_bytes', 'check_sums'), ('check_bytes', 'joined_sums'), ('plancheck', 'line_of'), ('planexpand', 'expansion_of'), ('report', 'report_of')]
 
 
 def table(every):

@@ -1,5 +1,7 @@
 #!/usr/bin/env python3
-"""Writes each proof file that a check offers and that is not there yet, with `search needs` at each need.
+"""For proofs of the older form; nothing here uses it now.
+
+Writes each proof file that a check offers and that is not there yet, with `search needs` at each need.
 
     python3 tools/skeleton.py NAME            from the repository's root: checks the crate NAME by `rt dev`
 

@@ -1,5 +1,7 @@
 #!/usr/bin/env python3
-"""Compiles the exported functions of a tree as a static library without proving anything, to try shapes of code for speed.
+"""For the older kit, whose parts it takes; nothing here uses it now.
+
+Compiles the exported functions of a tree as a static library without proving anything, to try shapes of code for speed.
 
     python3 tools/unproved.py OUT.a [TREE]      TREE is a repository's root, this one if none is named
 

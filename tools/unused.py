@@ -1,5 +1,5 @@
 #!/usr/bin/env python3
-"""Says which names are imported by `use M.{..}` and not used in the file.
+"""Says which names are imported by `use M.{..}` and not used in the file. Nothing is proved; in a crate that proves, `rt tidy` does it too.
 
     python3 tools/unused.py [--fix] FILE..      --fix takes them out
 """
@@ -12,8 +12,8 @@ WORD = re.compile(r"[^\s(){}\[\],;.λ]+|[.λ]")
 def used(name, words, body):
     if name in words or name == '[]' and '[]' in body:
         return True
-    parts = [part for part in name.split('_') if part]
-    return '_' in name and all(part in words for part in parts)
+    parts = [part for part in name.split('◌') if part]
+    return '◌' in name and all(part in words for part in parts)
 
 
 def main():

@@ -1,5 +1,7 @@
 #!/usr/bin/env python3
-"""Writes the proofs of the functions with a struct by `&mut`, which the prover does not cover: walks of their MIR, step by step.
+"""For proofs of the older form; nothing here uses it now.
+
+Writes the proofs of the functions with a struct by `&mut`, which the prover does not cover: walks of their MIR, step by step.
 
     python3 tools/walks.py            writes them all, from the repository's root; then `rt fmt`
     python3 tools/walks.py --check    says which of them are not as it would write them, but for the layout

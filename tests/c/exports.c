@@ -44,9 +44,20 @@ int main(void) {
     wrong += differs("plan_judge", plan_judge(declared, sizeof declared), answer(1, 0, 0, 0));
     wrong += differs("plan_judge of a plain plan", plan_judge(case_3, sizeof case_3), answer(2, 11, 0, 0));
 
+    /* The fields of an answer, each by its name. */
+    const uint64_t fields = answer(2, PLAN_MAY_STOP, 1023, 4095);
+    wrong += differs("plan_number", plan_number(fields), 18);
+    wrong += differs("plan_place", plan_place(fields), 1023);
+    wrong += differs("plan_cell", plan_cell(fields), 4095);
+    wrong += differs("plan_kind", plan_kind(fields), 2);
+    const uint64_t part = plan_body_view(case_3, sizeof case_3, 0);
+    wrong += differs("plan_part_begin", plan_part_begin(part), 10);
+    wrong += differs("plan_part_length", plan_part_length(part), 8);
+
     /* The expansion has a need and a read: 10 + 16 + 2 bytes. */
     uint64_t length = plan_expansion_length(declared, sizeof declared);
     wrong += differs("plan_expansion_length", length, answer(1, 0, 28, 0));
+    wrong += differs("plan_file_length", plan_file_length(length), 28);
     wrong += differs("plan_expansion_length of a plain plan", plan_expansion_length(case_3, sizeof case_3), answer(2, 11, 0, 0));
     uint8_t out[32];
     memset(out, 7, sizeof out);
@@ -77,12 +88,15 @@ int main(void) {
     host[0] = 3;
     latest[0] = 4;
     wrong += differs("plan_memory_view", plan_memory_view(host, 2, card, 2, latest, 2, 0, 1), answer(0, 0, 1, 0));
+    wrong += differs("plan_side", plan_side(plan_memory_view(host, 2, card, 2, latest, 2, 0, 1)), 1);
     wrong += differs("plan_memory_view of no cell", plan_memory_view(host, 2, card, 2, latest, 2, 1, 1), answer(0, 23, 0, 0));
     latest[0] = 6;
     wrong += differs("plan_memory_view of stale cells", plan_memory_view(host, 2, card, 2, latest, 2, 0, 1), answer(0, 24, 0, 0));
 
     /* The sums of case 3 up to its check bytes are its check bytes. */
     wrong += differs("plan_back_sums", plan_back_sums(case_3, 18), 9 | 0x3B << 16);
+    wrong += differs("plan_plain_sum", plan_plain_sum(plan_back_sums(case_3, 18)), 9);
+    wrong += differs("plan_weighted_sum", plan_weighted_sum(plan_back_sums(case_3, 18)), 0x3B);
     wrong += differs("plan_back_sums of nothing", plan_back_sums(NULL, 0), 0);
     wrong += differs("plan_joined_sums", plan_joined_sums(case_3, 10, plan_back_sums(case_3 + 10, 8)), 9 | 0x3B << 16);
     wrong += differs("plan_joined_sums of no front", plan_joined_sums(NULL, 0, (uint64_t)7 << 32 | 252 << 16 | 250), 250 | 1 << 16);

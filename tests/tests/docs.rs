@@ -12,8 +12,8 @@
 //! - any other name: some file of the crates or the tests has it, outside its comments, or it is the
 //!   name of a module, a crate, a program or an edit.
 //!
-//! Blocks of code are left out, and so is docs/CHANGES.md, which speaks of what was. This file is not
-//! read: it has made-up names.
+//! Blocks of code are left out, and so are docs/CHANGES.md and pages that begin with PORT, which speak of
+//! what was. This file is not read: it has made-up names.
 
 use std::collections::{HashMap, HashSet};
 use std::fs;
@@ -23,7 +23,7 @@ use std::sync::OnceLock;
 const ROOT: &str = concat!(env!("CARGO_MANIFEST_DIR"), "/..");
 
 /// Words of the languages, the kit and the system that documents cite.
-const OUTSIDE: &str = "RT_JOBS TMPDIR";
+const OUTSIDE: &str = "";
 
 /// The documents, from the root.
 fn documents() -> Vec<PathBuf> {
@@ -31,7 +31,8 @@ fn documents() -> Vec<PathBuf> {
     for folder in ["", "docs", "examples"] {
         for entry in fs::read_dir(Path::new(ROOT).join(folder)).unwrap() {
             let path = Path::new(folder).join(entry.unwrap().file_name());
-            if path.extension().is_some_and(|end| end == "md") && !path.ends_with("CHANGES.md") {
+            let name = path.file_name().unwrap().to_string_lossy().into_owned();
+            if name.ends_with(".md") && name != "CHANGES.md" && !name.starts_with("PORT") {
                 found.push(path);
             }
         }
@@ -46,12 +47,12 @@ struct Tree {
     every: HashSet<String>,
 }
 
-/// Whether a sign belongs to a name of the definitions; of Rust's names the hyphen does not.
+/// Whether a sign belongs to a name of the proofs; of Rust's names hyphen and apostrophe do not.
 fn in_name(c: char) -> bool {
-    c.is_alphanumeric() || "_-′".contains(c)
+    c.is_alphanumeric() || "_-'".contains(c)
 }
 
-/// The names of a text, once with hyphens in them and once without.
+/// The names of a text, once with hyphens and apostrophes in them and once without.
 fn names_of(text: &str) -> HashSet<String> {
     let code = text
         .lines()
@@ -86,7 +87,8 @@ impl Tree {
         let Ok(entries) = fs::read_dir(root.join(folder)) else { return };
         for entry in entries {
             let path = folder.join(entry.unwrap().file_name());
-            if path.ends_with("tests/target") {
+            // what is built, and what the prover keeps
+            if path.ends_with("tests/target") || path.ends_with("out") {
                 continue;
             }
             if path.ends_with("tests/docs.rs") {
@@ -272,7 +274,7 @@ fn every_definition_is_in_the_reading_order() {
 fn what_does_not_exist_is_found() {
     let tree = Tree::read();
     let found = |text: &str| faults(tree, text).len();
-    assert_eq!(found("`crates/model/specs/Sides.antt`: `Layout`; model `Sides`: `Layout`, `cell-count`; `open.rs`: `places`; must-fail `start_on_card`"), 0);
+    assert_eq!(found("`crates/model/specs/Sides.antt`: `Layout`; model `Sides`: `Layout`, `cell_count`; `open.rs`: `places`; must-fail `start_on_card`"), 0);
     assert_eq!(found("`crates/model/specs/Nowhere.antt` and `crates/none/`"), 2);
     assert_eq!(found("`Nowhere.antt`, `no_such_name`, `no-such-name`"), 3);
     assert_eq!(found("`Sides`: `Layout`, `covers`; `covers`"), 1);
@@ -282,7 +284,7 @@ fn what_does_not_exist_is_found() {
         found("must-fail format `header_of_three`; format `open`, view `memory_view`, view `open`"),
         4
     );
-    assert_eq!(found("format `Views`: `body-part`; view `Views`: `body-part`"), 1);
+    assert_eq!(found("format `Views`: `body_part`; view `Views`: `body_part`"), 1);
     assert_eq!(found("`2 18 0 0`, `rt check`, `target/bin/plancheck < examples/none.plan`"), 1);
     assert_eq!(found("```\n`no_such_name`\n```\n    `no_such_name`"), 0);
 }

@@ -2,6 +2,7 @@
 
 mod c;
 mod check;
+mod docs;
 mod examples;
 mod expand;
 mod fixed;

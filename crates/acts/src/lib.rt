@@ -1,4 +1,6 @@
 // What a record of kind 1 to 5 does to the memories, flags and tally. A step is the byte of a record: 0 and 1 mean each cell.
+#![tactic(auto)]
+
 ghost use Rattle.std.specs.Prelude.{◌≡◌, true, false, not, ◌&&◌, List, ℕ, ◌≤◌, ◌<◌, leb, length};
 ghost use Rattle.model.specs.Sides.{Layout};
 ghost use Rattle.model.specs.Records.{read, write, copy, need, mark, Action, distance};
@@ -15,7 +17,7 @@ use reading::Fields;
 use reading::kinds::{MARK, NEED, READ, WRITE};
 
 // What a run keeps besides the memories: the flags of the host, those of the card, the tally, and what it knows of the cells.
-#[derive(Drop)]
+#[derive(Clone, Copy)]
 pub struct Stored {
     pub flags: u64,
     pub other_flags: u64,
@@ -26,7 +28,7 @@ pub struct Stored {
 }
 
 // A record has acted, or the lowest cell in which its need is unmet.
-#[derive(Drop)]
+#[derive(Clone, Copy)]
 pub enum Acted {
     Done(Stored),
     Unmet(Cell),

@@ -1,4 +1,6 @@
 // The answer over the cells of an opened plain plan: cells that no record tells apart share one walk.
+#![tactic(auto)]
+
 ghost use Rattle.std.specs.Prelude.{◌≡◌, ℕ, ◌+◌, ◌≤◌, ◌<◌, get_or};
 ghost use Rattle.model.specs.Sides.{span_of, is_scratch};
 ghost use Rattle.model.specs.Check.{Answers};

@@ -1,4 +1,6 @@
 // The check of a plain plan.
+#![tactic(auto)]
+
 ghost use Rattle.std.specs.Prelude.{◌≡◌};
 ghost use Rattle.format.specs.Opening.{opened};
 ghost use Rattle.checker.specs.Checking.{Checks};

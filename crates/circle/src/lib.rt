@@ -1,1 +1,2 @@
 // No function: this crate holds the theorems that join the services.
+#![tactic(auto)]

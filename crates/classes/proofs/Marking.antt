@@ -17,7 +17,7 @@ use Rattle.model.proofs.Numbering.{stepped_one, stepped_next, stepped_none}
 use Rattle.reading.specs.declared.Fields.{Fields}
 use Rattle.reading.specs.Bytes.{first_arm, second_arm, array_count, layout_of, record_count, fields_at, lengths_of}
 use Rattle.reading.specs.Inner.Cells.{from_of, to_of, step_of}
-use Rattle.format.specs.Inner.Walks.{Plain, Walkable}
+use Rattle.format.specs.Inner.Walks.{Plain, Walkable, Starts}
 use Rattle.reading.proofs.Tables.{first_rises, next_cell, all_cells}
 use Rattle.format.proofs.Walking.{opened_facts, steps}
 use Rattle.format.proofs.Trees.{plain_walk}
@@ -117,6 +117,10 @@ module _ (m : List ℕ) (size : length m ≡ 4097) (a b : ℕ) (a-inside : a < 4
     alike = λ n u. stepped_one a b (suc n) ∙ rw (leb_before a n (λ z. u (rw z two_first)), ltb_before b n (λ z. u (rw z two_second))) (sym (stepped_one a b n));
   }
 
+-- the same where the step is a number that can only be 1
+pub edged_each : (m : List ℕ) (a b step : ℕ) → length m ≡ 4097 → 1 ≤ step → step ≤ 1 → a < 4097 → b < 4097 → Edged step a b m (set (set m a 1) b 1)
+edged_each m a b step size some few a-inside b-inside = let e : step ≡ 1 = omega arith in rw e (edged_range m size a b a-inside b-inside)
+
 -- at number c of `from`, `from` + k and so on below `to`: those before c are marked, and the numbers after them
 pub record Behind (k from to c : ℕ) (before after : List ℕ) : Type 0 where
   pub size : length after ≡ 4097
@@ -196,6 +200,14 @@ module _ (f : List ℕ) (m : List ℕ) (r : ℕ) (x : Fields) (e : x ≡ fields_
         | no y ↦ let q : j ≡ r = omega arith in rw (q, ← e) (covers_alike x a o (λ u. on_alike o (rw u at n)))
       ];
     }
+
+-- the marks of one record more, by the cells that were found for it
+pub marked_next : (f : List ℕ) (bodies : ℕ) (starts : List ℕ) → Plain f bodies → Starts f starts → (r : ℕ) → r < record_count f → (x : Fields) → x ≡ fields_at f r → x.kind ≤ 3 →
+    (from to step : ℕ) → from ≡ from_of x (get_or starts x.array 0) → to ≡ to_of x (get_or starts x.array 0) (get_or starts (x.array + 1) 0) → step ≡ step_of x →
+    (m after : List ℕ) → Marked f r m → Edged step from to m after → Marked f (r + 1) after
+marked_next f bodies starts w s r h x e k from to step a b d m after z i =
+    let edge = edges f bodies w r h x e k in
+    marked_more f m r x e z from to step (cells f x k (get_or starts x.array 0) (s.first x.array (omega (arith, edge.array))) _ from to step a b d) after i
 
 pub marked_none : (f m : List ℕ) → length m ≡ 4097 → Marked f 0 m
 marked_none f m e = record { size = e; alike = λ a o l n k i. absurd (omega arith) }

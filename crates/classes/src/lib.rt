@@ -1,4 +1,6 @@
 // Which cells share a walk, and the answer with the cell of one walk more.
+#![tactic(auto)]
+
 ghost use Rattle.std.specs.Prelude.{◌≡◌, ◌≤◌, ◌<◌, length};
 ghost use Rattle.model.specs.Inner.Lowest.{with_cell};
 ghost use Rattle.reading.specs.Bytes.{record_count};
@@ -31,6 +33,7 @@ fn mark_steps(m: &mut [u8; PLACES], cells: Span)
 }
 
 // Marks each place where the cells of a record begin or end.
+#[tactic(auto, using(crate::proofs::Marking::edged_each))]
 fn mark_edges(m: &mut [u8; PLACES], cells: Span)
     requires { (length m.old ≡ 4097) × (cells.from < cells.to) × (cells.to ≤ 4096) × (1 ≤ cells.step) × (cells.step < 256) }
     ensures { Edged cells.step cells.from cells.to m.old m.new }
@@ -77,6 +80,7 @@ fn named(v: Verdict) -> u16
 }
 
 // The answer for the cells before cell c, and then for c too, which can stop at record k.
+#[tactic(auto, using(crate::proofs::More::cell_lower, crate::proofs::More::cell_kept))]
 pub fn with_cell(v: Verdict, c: Cell, k: u16) -> Verdict
     ensures { result ≡ with_cell v c.0 (record_of k) }
 {

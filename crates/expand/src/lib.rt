@@ -1,4 +1,6 @@
 // The expander: a declared plan that the judge accepts, written as the file of a plain plan.
+#![tactic(auto)]
+
 ghost use Rattle.std.specs.Prelude.{◌≡◌, ◌≤◌, length};
 ghost use Rattle.model.specs.declared.Verdict.TheVariants.{Accepted};
 ghost use Rattle.contents.specs.Inner.Findings.{found};
@@ -29,6 +31,7 @@ fn file_length(plan: &[u8], records: u32) -> u32
 }
 
 // 16 and 26, of an expansion of so many records.
+#[tactic(auto, using(crate::proofs::Laws::Answers::too_large))]
 fn expansion_tests(plan: &[u8], o: Opened, records: u32) -> Verdict
     requires { DeclaredFile plan.now × (o ≡ found plan.now) × (records ≡ size (expansion_of plan.now).body) }
     ensures { result ≡ answer_of (expansion_rows plan.now) }

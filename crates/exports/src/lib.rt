@@ -1,4 +1,6 @@
 // The functions for C and Rust: include/cuplihang.h declares them.
+#![tactic(auto)]
+
 ghost use Rattle.std.specs.Prelude.{◌≡◌};
 ghost use Rattle.exports.specs.Exported.{packed_for, PackedCheck, PackedRun, PackedLog, EntryOf};
 ghost use Rattle.check_bytes.specs.Packed.{packed_back_sums, packed_joined_sums};

@@ -1,4 +1,6 @@
 // What the declarations of a called pass give, written as records at the front of the part of the output that is lent.
+#![tactic(auto)]
+
 ghost use Rattle.std.specs.Prelude.{◌≡◌, ◌+◌, ◌*◌, ◌≤◌, ◌<◌, length};
 ghost use Rattle.model.specs.Blocks.{size};
 ghost use Rattle.reading.specs.Inner.Places.{Inside};

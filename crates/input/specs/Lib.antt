@@ -1,2 +1,3 @@
 -- What the programs' reading rests on.
+pub mod Counts
 pub mod Longer

@@ -1,8 +1,10 @@
 // Reading a plan file, or another.
-ghost use Rattle.std.specs.Prelude.{◌≡◌, ◌+◌, ◌≤◌, length};
-ghost use Rattle.io.specs.Counts.{IsPrefixLen};
+#![tactic(auto)]
 
-use libc::STDIN_FILENO;
+ghost use Rattle.std.specs.Prelude.{◌≡◌, ◌+◌, ◌≤◌, length};
+ghost use Rattle.input.specs.Counts.{IsPrefixLen};
+
+use std::io::{Error, Read, Stderr, Stdin};
 
 pub mod files;
 
@@ -10,43 +12,52 @@ pub mod files;
 // (specs/Longer).
 pub const ROOM: usize = 8391;
 
-// What reading gave: so many bytes at the front of the room, or a failure.
-#[derive(Drop)]
+// What reading gave: so many bytes at the front of the room, or a failure, and why it failed.
+#[derive(Clone, Copy)]
 pub struct Input {
     pub size: usize,
     pub failed: bool,
+    pub why: Option<Error>,
 }
 
 // One read.
-fn read_once(fd: i32, room: &mut [u8]) -> Input
+fn read_once<R: Read>(from: &mut R, room: &mut [u8]) -> Input
     ensures { IsPrefixLen result.size room.new }
 {
-    let got = libc::read(fd, room);
-    Input {
-        size: io::count(got, room),
-        failed: got < 0,
+    match from.read(room) {
+        Ok(size) => Input {
+            size,
+            failed: false,
+            why: None,
+        },
+        Err(why) => Input {
+            size: 0,
+            failed: true,
+            why: Some(why),
+        },
     }
 }
 
 // One read behind the bytes that stand in the room already; a room that stays as long as it was.
-fn read_behind(fd: i32, room: &mut [u8], size: usize) -> Input
+fn read_behind<R: Read>(from: &mut R, room: &mut [u8], size: usize) -> Input
     requires { size ≤ length room.old }
     ensures { (size + result.size ≤ length room.new) × (length room.new ≡ length room.old) }
 {
-    read_once(fd, &mut room[size..])
+    read_once(from, &mut room[size..])
 }
 
 // Reads until the room is full, the input ends or a read fails.
-pub fn read_input(fd: i32, room: &mut [u8]) -> Input
+pub fn read_input<R: Read>(from: &mut R, room: &mut [u8]) -> Input
     ensures { IsPrefixLen result.size room.new }
 {
     let mut size = 0;
     while size < room.len() {
-        let more = read_behind(fd, room, size);
+        let more = read_behind(from, room, size);
         if more.size == 0 {
             return Input {
                 size: size,
                 failed: more.failed,
+                why: more.why,
             };
         }
         size += more.size;
@@ -54,16 +65,18 @@ pub fn read_input(fd: i32, room: &mut [u8]) -> Input
     Input {
         size: size,
         failed: false,
+        why: None,
     }
 }
 
 // Reads standard input, and says on standard error where that fails.
-pub fn read_plan(program: &[u8], room: &mut [u8]) -> Input
+pub fn read_plan(stdin: Stdin, err: Stderr, program: &[u8], room: &mut [u8]) -> Input
     ensures { IsPrefixLen result.size room.new }
 {
-    let input = read_input(STDIN_FILENO, room);
-    if input.failed {
-        console::fail(program, b"standard input");
+    let mut from = stdin;
+    let input = read_input(&mut from, room);
+    if let Some(why) = input.why {
+        console::fail(err, program, b"standard input", why);
     }
     input
 }

@@ -1,4 +1,6 @@
 // The judge: numbers 11 to 15.
+#![tactic(auto)]
+
 ghost use Rattle.std.specs.Prelude.{◌≡◌, true, ℕ, suc, ◌-◌};
 ghost use Rattle.model.specs.declared.Verdict.TheVariants.{Accepted};
 ghost use Rattle.model.specs.Rows.{answer_of, all_rows};

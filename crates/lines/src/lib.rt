@@ -1,4 +1,6 @@
 // The lines of a listing: the heading, the line of an array or a body, and the lines of a record.
+#![tactic(auto)]
+
 pub mod parts;
 pub mod records;
 

@@ -7,6 +7,7 @@ use lines::records::{else_line, record_lines};
 use reading::{Fields, byte, first_arm, number_at, second_arm};
 
 // The fields of record i of a body.
+#[tactic(auto, unfolding(crate::specs::Inner::Bodies::fields_in))]
 fn record_in(body: &[u8], i: usize) -> Fields
     requires { (i < 1024) × (8 * i + 8 ≤ length body.now) }
     ensures { result ≡ fields_in body.now i }

@@ -1,4 +1,6 @@
 // The listing of a plan that opens: a line on the whole, a line for each array, and each body with its records.
+#![tactic(auto)]
+
 ghost use Rattle.std.specs.Prelude.{◌≡◌, ◌≤◌, ◌<◌};
 ghost use Rattle.model.specs.declared.Verdict.TheVariants.{Accepted};
 ghost use Rattle.reading.specs.Bytes.{body_count};

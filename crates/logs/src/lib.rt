@@ -1,4 +1,6 @@
 // What the router really did: a log of record numbers, held against a plain plan.
+#![tactic(auto)]
+
 ghost use Rattle.std.specs.Prelude.{◌≡◌, List, [], ◌∷◌, ℕ, ◌+◌, ◌/◌, ◌^◌, ◌≤◌, ◌<◌, length};
 ghost use Rattle.model.specs.Rows.{answer_of};
 ghost use Rattle.reading.specs.Bytes.{first_arm, second_arm};
@@ -17,14 +19,14 @@ use steps::put_starts;
 use tracked::{track, write_statuses};
 
 // An answer, and the entry that 30 and 31 name: an entry's number can pass 16 bits.
-#[derive(Drop)]
+#[derive(Clone, Copy)]
 pub struct Logged {
     pub verdict: Verdict,
     pub entry: u64,
 }
 
 // Where the run that a log tells stands; the number of the last entry's refusal, 0 while the log goes on.
-#[derive(Drop)]
+#[derive(Clone, Copy)]
 pub struct Point {
     pub place: Place,
     pub number: u8,
@@ -32,7 +34,7 @@ pub struct Point {
 
 // What is known of the entries of a log that are read, `read` of them. All but the last are followed; that one waits for the next, which tells the choice where it is a test. At a refusal
 // the refused entry is the last.
-#[derive(Drop)]
+#[derive(Clone, Copy)]
 pub struct Held {
     pub point: Point,
     pub waiting: usize,

@@ -1,4 +1,6 @@
 // One step of a run.
+#![tactic(auto)]
+
 ghost use Rattle.std.specs.Prelude.{◌≡◌, true, ◌<◌, length};
 ghost use Rattle.model.specs.Sides.{cell_count};
 ghost use Rattle.reading.specs.Bytes.{layout_of};

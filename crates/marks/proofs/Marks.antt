@@ -64,6 +64,10 @@ module _ (k to c : ℕ) (l : List Bool) (n : length l ≡ 4096) where
     ];
   }
 
+-- a step of at most 1, which is 1
+pub by_ones : (before after : List Bool) (step from to : ℕ) → 1 ≤ step → step ≤ 1 → Adds before after (stepped 1 from to) → Adds before after (stepped step from to)
+by_ones before after step from to some one m = let each : step ≡ 1 = omega arith in rw each m
+
 -- the cells that two sets have both
 module _ (before one two : List Bool) where
   pub both_none : length before ≡ 4096 → Adds before before (λ c. ltb c 0 && (marked one c && marked two c))

@@ -1,4 +1,6 @@
 // The cells that every way through a pass writes, marked in a set.
+#![tactic(auto)]
+
 ghost use Rattle.std.specs.Prelude.{◌≡◌, ◌&&◌, ℕ, ◌+◌, ◌-◌, ◌≤◌, ◌<◌, length, get_or};
 ghost use Rattle.model.specs.Records.{stepped};
 ghost use Rattle.reading.specs.Inner.Places.{Inside};
@@ -35,6 +37,7 @@ fn mark_steps(set: &mut [bool; CELLS], cells: Span)
 }
 
 // Marks the cells of a record. Without a step a loop of its own takes them many at a time.
+#[tactic(auto, using(crate::proofs::Marks::by_ones))]
 pub fn mark(set: &mut [bool; CELLS], cells: Span)
     requires { (length set.old ≡ 4096) × (cells.to ≤ 4096) × (1 ≤ cells.step) × (cells.step < 256) }
     ensures { Adds set.old set.new (stepped cells.step cells.from cells.to) }

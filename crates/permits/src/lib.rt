@@ -1,4 +1,6 @@
 // Numbers 12 to 14: the declarations of a pass, and its records against them.
+#![tactic(auto)]
+
 ghost use Rattle.std.specs.Prelude.{◌≡◌, ◌<◌, replicate};
 ghost use Rattle.model.specs.Rows.{answer_of, all_rows};
 ghost use Rattle.reading.specs.Bytes.{records_in, declarations_in};

@@ -1,4 +1,6 @@
 // Where a run stands in a plan: the record, and the arms that hold it.
+#![tactic(auto)]
+
 ghost use Rattle.std.specs.Prelude.{◌≡◌, List, ℕ, ◌+◌, ◌≤◌, ◌<◌, length};
 ghost use Rattle.reading.specs.Bytes.{first_arm, second_arm};
 ghost use Rattle.places.specs.Inner.Places.{spot, started, entered, skipped, into, left_arm, settled, chosen, begun_at, turned};
@@ -18,7 +20,7 @@ const BACKS: usize = 49;
 const TURNS: usize = 65;
 
 // Record `at` of an arm or body that ends before record `end`, `depth` arms deep; how many choices are used. Whole words: parts of one are put together anew at each step.
-#[derive(Drop)]
+#[derive(Clone, Copy)]
 pub struct Place {
     pub at: usize,
     pub end: usize,
@@ -133,6 +135,7 @@ pub fn choose(p: Place, x: Fields, choice: u8, room: &mut [u16]) -> Place
 }
 
 // A turn of a fixed loop with the fields x begins.
+#[tactic(auto, unfolding(crate::specs::Inner::Places::turned))]
 pub fn turn(p: Place, x: Fields, room: &mut [u16]) -> Place
     requires { (p.depth < 16) × (length room.old ≡ 81) × (p.end < 65536) × (p.at + 1 + first_arm x < 65536) × (begun_at room.old p.depth < x.q) }
     ensures { spot result room.new ≡ turned (spot p room.old) x }

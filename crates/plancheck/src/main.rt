@@ -1,22 +1,25 @@
 // Reads a plan file from standard input, judges a declared plan, checks a plain one, and prints one line:
 // the file's kind (0 if it does not open), the answer (0 accepted), place or record, cell.
+#![tactic(auto)]
+
 ghost use Rattle.plancheck.specs.Lines.{LineOf};
 
 use console::answers::print_answer;
 use console::fail;
+use console::streams::Stream;
 use input::{ROOM, read_plan};
-use libc::STDOUT_FILENO;
 use model::Values;
 use reading::kinds::PLAIN;
 
 // What the line says.
-#[derive(Drop)]
+#[derive(Clone, Copy)]
 struct Line {
     kind: u8,
     values: Values,
 }
 
 // The line for a plan file of any bytes.
+#[tactic(auto, using(crate::proofs::Cases::line_plain, crate::proofs::Cases::line_other))]
 fn line_of(plan: &[u8]) -> Line
     ensures { LineOf plan.now result }
 {
@@ -36,15 +39,16 @@ fn line_of(plan: &[u8]) -> Line
     }
 }
 
-fn main() {
+fn main(rt: HostRuntime) {
+    let err = rt.stderr();
     let mut room = [0u8; ROOM];
-    let input = read_plan(b"plancheck", &mut room);
+    let input = read_plan(rt.stdin(), err, b"plancheck", &mut room);
     if input.failed {
         return;
     }
     let n = input.size;
     let line = line_of(&room[..n]);
-    if !print_answer(STDOUT_FILENO, line.kind, line.values) {
-        fail(b"plancheck", b"standard output");
+    if let Err(why) = print_answer(Stream::Out(rt.stdout()), line.kind, line.values) {
+        fail(err, b"plancheck", b"standard output", why);
     }
 }

@@ -1,6 +1,6 @@
 -- What planexpand writes (document 01, 'Judging and expanding').
 use Rattle.std.specs.Prelude.{ℕ, ◌≡◌, cond, List, [], take}
-use Rattle.io.specs.Counts.{IsPrefixLen}
+use Rattle.input.specs.Counts.{IsPrefixLen}
 use Rattle.model.specs.Verdicts.{accepted, values_of}
 use Rattle.format.specs.Opening.{opened}
 use Rattle.files.specs.Expansions.{expansion_file}

@@ -1,18 +1,20 @@
 // Reads a declared plan file from standard input and writes its expansion's file to standard output. At a refusal it writes one line to
 // standard error, as plancheck does: the file's kind (0 if it does not open), the answer's number, place, cell (0).
+#![tactic(auto)]
+
 ghost use Rattle.planexpand.specs.Expansions.{ExpansionOf};
 
 use console::answers::print_answer;
 use console::fail;
+use console::streams::{Stream, write};
 use input::{ROOM, read_plan};
-use libc::{STDERR_FILENO, STDOUT_FILENO};
 use model::Values;
 
 // The largest expansion's file: 32 arrays, 1,024 records.
 const LARGEST: usize = 8266;
 
 // What is written: so many bytes of the output, or the line of a refusal.
-#[derive(Drop)]
+#[derive(Clone, Copy)]
 struct Expansion {
     kind: u8,
     values: Values,
@@ -33,9 +35,10 @@ fn expansion_of(plan: &[u8], out: &mut [u8; LARGEST]) -> Expansion
     }
 }
 
-fn main() {
+fn main(rt: HostRuntime) {
+    let err = rt.stderr();
     let mut room = [0u8; ROOM];
-    let input = read_plan(b"planexpand", &mut room);
+    let input = read_plan(rt.stdin(), err, b"planexpand", &mut room);
     if input.failed {
         return;
     }
@@ -43,11 +46,11 @@ fn main() {
     let mut out = [0u8; LARGEST];
     let e = expansion_of(&room[..n], &mut out);
     let size = e.size;
-    if !io::write_all(STDOUT_FILENO, &out[..size]) {
-        fail(b"planexpand", b"standard output");
+    if let Err(why) = write(Stream::Out(rt.stdout()), &out[..size]) {
+        fail(err, b"planexpand", b"standard output", why);
     }
     let values = e.values;
     if values.number != 0 {
-        print_answer(STDERR_FILENO, e.kind, values);
+        let _ = print_answer(Stream::Err(err), e.kind, values);
     }
 }

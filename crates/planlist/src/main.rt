@@ -1,13 +1,17 @@
 // Reads a plan file from standard input and lists it for a reader: its arrays, its bodies, and their records with the arms indented. Of a file
 // that does not open it prints one line: the number, what it means, and the place. With a body's number as its argument it lists that body alone.
+#![tactic(auto)]
+
 use console::answers::refusal;
-use console::arguments::{NO_NUMBER, number_argument};
-use console::page::{Page, finish};
+use console::arguments::{NO_NUMBER, argument_count, number_argument};
+use console::page::{Page, blank, finish};
+use console::streams::{Stream, put};
 use format::{body_view_answer, open};
 use input::{ROOM, read_plan};
-use libc::STDERR_FILENO;
 use listing::{body_lines, listed};
 use model::{Verdict, values_of};
+use std::env::Env;
+use std::io::{Stderr, Stdin, Stdout};
 
 // What is printed for a plan file of any bytes.
 fn plan_answer(page: &mut Page, plan: &[u8]) -> usize {
@@ -38,31 +42,32 @@ fn answer(page: &mut Page, plan: &[u8], body: u64) -> usize {
 }
 
 // Whether the arguments are as they should be, none or a body's number. Where they are not it says so on standard error.
-fn arguments_fit(body: u64) -> bool {
-    let count = os::arg_count();
+fn arguments_fit(env: &impl Env, err: Stderr, body: u64) -> bool {
+    let count = argument_count(env);
     if (count == 1) | ((count == 2) & (body != NO_NUMBER)) {
         return true;
     }
-    io::write_all(STDERR_FILENO, b"usage: planlist [BODY] < PLAN\n");
+    put(err, b"usage: planlist [BODY] < PLAN\n");
     false
 }
 
 // Lists what standard input gives.
-fn list(body: u64) {
+fn list(stdin: Stdin, out: Stdout, err: Stderr, body: u64) {
     let mut room = [0u8; ROOM];
-    let input = read_plan(b"planlist", &mut room);
+    let input = read_plan(stdin, err, b"planlist", &mut room);
     if input.failed {
         return;
     }
     let n = input.size;
-    let mut page = [0u8; 4096];
+    let mut page = blank(Stream::Out(out));
     let at = answer(&mut page, &room[..n], body);
-    finish(b"planlist", &page, at);
+    finish(err, b"planlist", &page, at);
 }
 
-fn main() {
-    let body = number_argument(1);
-    if arguments_fit(body) {
-        list(body);
+fn main(rt: HostRuntime) {
+    let err = rt.stderr();
+    let body = number_argument(&rt, 1);
+    if arguments_fit(&rt, err, body) {
+        list(rt.stdin(), rt.stdout(), err, body);
     }
 }

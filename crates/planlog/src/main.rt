@@ -1,5 +1,6 @@
 // HaveLed a router's log, of any length, against a plain plan: reads both files, whose paths are its arguments, and prints the answer's line, the file's kind (0 if it does not
 // open), the answer's number, its place, its entry; then in words what is wrong, and with which records a run would have gone on.
+#![tactic(auto)]
 ghost use Rattle.std.specs.Prelude.{◌+◌, ◌^◌, ◌≤◌, ◌<◌, length};
 ghost use Rattle.io.specs.Counts.{IsPrefixLen};
 ghost use Rattle.logs.specs.Inner.Following.{Underway, Opens};
@@ -26,7 +27,7 @@ type Part = [u8; PART];
 const PARTS: u64 = 70368744177664;
 
 // Where the parts that are read have led, and the lines of a refused entry that wait in the page: 0 where the log goes on.
-#[derive(Drop)]
+#[derive(Clone, Copy)]
 struct Progress {
     stage: Stage,
     at: usize,

@@ -8,7 +8,7 @@ use places::ROOM;
 use reading::kinds::CELLS;
 
 // Where the parts that are read have led.
-#[derive(Drop)]
+#[derive(Clone, Copy)]
 pub struct Stage {
     pub held: Held,
     pub cells: [u8; CELLS],

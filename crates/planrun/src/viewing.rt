@@ -9,7 +9,7 @@ use report::Memory;
 use view::{memory_view, memory_view_answer};
 
 // The cells to view, where any are asked for.
-#[derive(Drop)]
+#[derive(Clone, Copy)]
 pub struct Cells {
     pub first: u64,
     pub end: u64,

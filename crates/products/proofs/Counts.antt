@@ -1,5 +1,5 @@
 -- The largest product along a nesting, record by record, and that it is at most 4,096 in a file that opens.
-use mathlib.Core.Path.{◌≡◌, refl, ◌∙◌}
+use mathlib.Core.Path.{◌≡◌, refl, sym, ◌∙◌}
 use mathlib.Core.Bool.{true, false}
 use mathlib.Core.List.{List}
 use Prim.Native.Nat.{ℕ, zero, suc, ◌+◌, ◌*◌, ◌-◌, max, ◌≤◌, ◌<◌}
@@ -196,6 +196,10 @@ alone f file x c k =
     let e = extent_of (found f) x.p in
     let p = pass_stands f file (found f) refl x.p c.0 c.1 e refl in
     rw (eq-eqb x.kind 8 k, one-mul, ← pass_product f e p x.p _ refl refl) (le-ltb _ _ (block_low f _ _ (others_counted f e p)))
+
+-- a call that no fixed loop holds
+pub alone_around : (f : List ℕ) (around : ℕ) (x : Fields) → DeclaredFile f → (x.kind ≡ 8 → (1 ≤ x.p) × (x.p < body_count f)) → x.kind ≡ 8 → around ≡ 1 → false ≡ too_many f around x
+alone_around f around x file c k one = rw one (sym (alone f file x (c k) k))
 
 pub body0_within : (f : List ℕ) → DeclaredFile f → Within f 0 1 0 (records_in f 0)
 body0_within f file = record { depth = 0; some = omega arith; few = omega arith; good = body0_good f (opened_facts f file.opened) }

@@ -1,4 +1,6 @@
 // Number 26 of the expander: the products of the counts of fixed loops around a call and inside the pass that it calls.
+#![tactic(auto)]
+
 ghost use Rattle.std.specs.Prelude.{◌≡◌, max, ◌≤◌, ◌<◌};
 ghost use Rattle.model.specs.Blocks.{largest};
 ghost use Rattle.model.specs.Rows.{answer_of};
@@ -46,6 +48,7 @@ fn largest(plan: &[u8], bodies: usize, from: usize, end: usize) -> usize
 
 // Whether a record with the fields x is a call whose pass, inside fixed loops with the product `around`, has a product that passes 4,096. A pass by itself
 // has none: opening has tested it.
+#[tactic(auto, using(crate::proofs::Counts::alone_around))]
 fn too_many(plan: &[u8], o: Opened, around: usize, x: Fields) -> bool
     requires { DeclaredFile plan.now × (o ≡ found plan.now) × (around ≤ 4096) × (x.kind ≡ 8 → (1 ≤ x.p) × (x.p < body_count plan.now)) }
     ensures { result ≡ too_many plan.now around x }

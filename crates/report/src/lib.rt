@@ -1,4 +1,6 @@
 // The run of a plan on memories that hold every plan's cells, and what is reported of it.
+#![tactic(auto)]
+
 ghost use Rattle.std.specs.Prelude.{◌≡◌};
 ghost use Rattle.report.specs.Reports.{ending_of, nothing, ReportOf};
 ghost use Rattle.run.specs.Running.{lent};
@@ -10,7 +12,7 @@ use reading::kinds::CELLS;
 pub type Memory = [u64; CELLS];
 
 // How a run ended; a refused one has not begun.
-#[derive(Drop)]
+#[derive(Clone, Copy)]
 pub enum Ending {
     Done,
     Stopped,
@@ -19,7 +21,7 @@ pub enum Ending {
 }
 
 // What is reported of a run.
-#[derive(Drop)]
+#[derive(Clone, Copy)]
 pub struct Report {
     pub ending: Ending,
     pub values: Values,

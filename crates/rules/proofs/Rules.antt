@@ -1,5 +1,5 @@
 -- Numbers 8 to 10 and 26: the tests of one record.
-use mathlib.Core.Path.{◌≡◌, sym, ◌∙◌}
+use mathlib.Core.Path.{◌≡◌, refl, sym, ◌∙◌}
 use mathlib.Core.Bool.{Bool, true, false, not, ◌&&◌, ◌||◌}
 use mathlib.Core.List.{List}
 use Prim.Native.Nat.{ℕ, ◌+◌, ◌*◌, ◌≤◌, ◌<◌}
@@ -56,6 +56,12 @@ module _ (f : List ℕ) (b depth around end r : ℕ) (x : Fields) (ex : x ≡ fi
         pub record_pass : around * q ≤ 4096 → Accepted ≡ answer_of (record_rows f b depth around r end)
         unfolding record_rows
         record_pass h = skips _ _ _ _ _ (rw (ev, ex) at t) (skips _ _ _ _ _ (rw (ew, ex) at u) (skips _ _ _ _ _ (sym arm_row ∙ o) (skips _ _ _ _ _ (le-ltb _ _ (rw (eq, ex) at h)) empty)))
+
+-- number 10, by the tests alone
+pub arm_refused : (f : List ℕ) (b depth around r end : ℕ) → fields_fit f (fields_at f r) ≡ true → allowed f b r (fields_at f r) ≡ true → nests (fields_at f r) ≡ true →
+    (ltb end (r + 1 + first_arm (fields_at f r) + second_arm (fields_at f r)) || ltb (deepest f) depth) ≡ true → answer_of (record_rows f b depth around r end) ≡ Refused 10 r
+arm_refused f b depth around r end v w n o =
+    sym (arm_stop f b depth around end r (fields_at f r) refl _ refl (rw v) _ refl (rw w) _ refl (rw n) _ _ _ refl refl refl o)
 
 -- what a record that passes its tests has
 pub record Tests (f : List ℕ) (b depth around r end : ℕ) : Type 0 where

@@ -89,6 +89,7 @@ pub fn deepest(plan: &[u8]) -> usize
 
 // Numbers 8, 9, 10 and 26 of record r, which has the fields x; the counts of the fixed loops that hold it have the product `around`. Neither 10 nor 26 can
 // hold of a record without arms.
+#[tactic(auto, using(crate::proofs::Rules::arm_refused))]
 pub fn record_tests(
     plan: &[u8],
     body: usize,

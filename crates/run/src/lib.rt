@@ -1,4 +1,6 @@
 // The run of a plain plan.
+#![tactic(auto)]
+
 ghost use Rattle.std.specs.Prelude.{◌≡◌};
 ghost use Rattle.format.specs.Opening.{opened};
 ghost use Rattle.run.specs.Running.{Runs, lent};
@@ -11,7 +13,7 @@ use steps::run_to_end;
 mod answers;
 
 // A run's answer, and what its tally has become.
-#[derive(Drop)]
+#[derive(Clone, Copy)]
 pub struct Counted {
     pub end: End,
     pub tally: Tally,

@@ -1,4 +1,6 @@
 // How many records the expansion has, and where each record of body 0 begins in it.
+#![tactic(auto)]
+
 ghost use Rattle.std.specs.Prelude.{◌≡◌, ◌+◌, ◌≤◌, ◌<◌, get_or};
 ghost use Rattle.model.specs.Blocks.{size};
 ghost use Rattle.reading.specs.Bytes.{body_count, records_in, bodies_at};

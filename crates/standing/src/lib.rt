@@ -1,4 +1,6 @@
 // Where a run stands: the machine, and what it becomes after a record, at a test, at a turn of a fixed loop and at its end.
+#![tactic(auto)]
+
 ghost use Rattle.std.specs.Prelude.{◌≡◌, List, ℕ, ◌+◌, ◌≤◌, ◌<◌, length};
 ghost use Rattle.reading.specs.Bytes.{first_arm, second_arm};
 ghost use Rattle.places.specs.Inner.Places.{spot, begun_at};
@@ -13,7 +15,7 @@ use reading::kinds::FIXED;
 
 // Where a run stands, its flags, what it knows of the cells, and where the plan's bodies begin; the record of the last step. The verdict is that of a run that has ended, accepted while it runs.
 // The counters stand in the tally alone.
-#[derive(Drop)]
+#[derive(Clone, Copy)]
 pub struct Machine {
     pub place: Place,
     pub flags: u64,
@@ -26,7 +28,7 @@ pub struct Machine {
 }
 
 // A machine, and the tally that stands beside it.
-#[derive(Drop)]
+#[derive(Clone, Copy)]
 pub struct Stepped {
     pub machine: Machine,
     pub tally: Tally,
@@ -104,6 +106,7 @@ fn begin_turn(m: Machine, x: Fields, room: &mut [u16]) -> Machine
 }
 
 // A record with arms, with the fields x: a branch, a test of a loop, or a turn of a fixed loop.
+#[tactic(auto, unfolding(crate::specs::Inner::Standing::led))]
 pub fn lead(m: Machine, x: Fields, choices: &[u8], room: &mut [u16]) -> Machine
     requires { (m.place.depth < 16) × (m.place.used ≤ length choices.now) × (length choices.now ≤ 65536) × (length room.old ≡ 81) × (m.place.end < 65536) × (m.place.at + 1 + first_arm x + second_arm x < 65536) × (x.kind ≡ 9 → begun_at room.old m.place.depth < x.q) }
     ensures { runner result room.new ≡ led (runner m room.old) x choices.now }

@@ -1,4 +1,6 @@
 // The steps of a run of an opened plain plan, from the start to its end.
+#![tactic(auto)]
+
 ghost use Rattle.std.specs.Prelude.{◌≡◌, false, not, length};
 ghost use Rattle.model.specs.Sides.{cell_count};
 ghost use Rattle.reading.specs.Bytes.{scratch_at, layout_of};
@@ -23,6 +25,7 @@ const NEVER: u64 = 18446744073709551615;
 
 // Puts "never" into the cells of scratch of the host's memory, in which all cells hold 0, and gives the host's flags: those of all arrays but scratch. Array by array, where
 // `first` is its first cell.
+#[tactic(auto, unfolding(reading::specs::Bytes::entry_at))]
 fn start_scratch(plan: &[u8], arrays: usize, host: &mut [u64]) -> u64
     requires { Counted plan.now arrays × Zeros (cell_count (layout_of plan.now)) host.old }
     ensures host { Changed 1 0 (cell_count (layout_of plan.now)) (first_host plan.now) host.old host.new }

@@ -1,5 +1,7 @@
 // The ways of one cell through a block of an opened plain plan. For each loop and each status with which its body is entered,
 // the exits of the body are computed once and kept in a row, with the class of the cell: rows of earlier classes need not be cleared.
+#![tactic(auto)]
+
 ghost use Rattle.std.specs.Prelude.{◌≡◌, false, ◌+◌, ◌-◌, ◌/◌, ◌%◌, ◌≤◌, ◌<◌};
 ghost use Rattle.model.specs.Blocks.{done, loop, fixed};
 ghost use Rattle.reading.specs.Bytes.{record_count};

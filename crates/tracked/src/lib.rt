@@ -1,4 +1,6 @@
 // The status of each cell of a plan, in a list: at the start, whether a record is stuck, and after a record.
+#![tactic(auto)]
+
 ghost use Rattle.std.specs.Prelude.{◌≤◌, length};
 ghost use Rattle.model.specs.Sides.{Layout, cell_count};
 ghost use Rattle.model.specs.Effects.{State, start};

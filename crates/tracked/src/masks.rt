@@ -5,7 +5,7 @@ ghost use Rattle.format.specs.Plans.{side_of, verb_of};
 ghost use Rattle.tracked.specs.Inner.Tracking.{Acting, stops_by, after_by, Tells};
 
 // A record stops in a status whose bits under `test` are `unmet`. Any other status stays if it has a bit of `held`; else it keeps the bits of `keep` and gets those of `set`.
-#[derive(Drop)]
+#[derive(Clone, Copy)]
 pub struct Masks {
     pub test: u8,
     pub unmet: u8,

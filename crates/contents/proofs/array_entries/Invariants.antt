@@ -1,19 +1,13 @@
-use mathlib.Core.Path.{◌≡◌, sym, ◌∙◌}
-use mathlib.Core.Logic.{⊎_elim}
+use mathlib.Core.Path.{◌≡◌}
 use mathlib.Core.Bool.{cond}
 use Prim.Native.Nat.{◌-◌, ◌≤◌}
-use native.Mathlib.Omega.{arith}
 use lib.Dec.{leb}
 use lib.ListN.{length}
-use Rattle.model.specs.Lists.{sum_before}
 use Rattle.model.specs.declared.Verdict.TheVariants.{Accepted}
 use Rattle.model.specs.Sides.{span_of}
 use Rattle.model.specs.Rows.{answer_of, all_rows}
-use Rattle.reading.specs.Bytes.{table, layout_of, entry_at, lengths_of}
+use Rattle.reading.specs.Bytes.{table, layout_of}
 use Rattle.contents.specs.Contents.{array_rows}
-use Rattle.model.proofs.Rows.{each_none, each_more}
-use Rattle.reading.proofs.Tables.{filled_first, filled_next, first_zero, all_cells}
-use Rattle.contents.proofs.Entries.{Walked, walk_ends, walk_stops, ArrayEntry, cells_more, array_stop, array_pass}
 use Rattle.contents.proofs.array_entries.Given as goal
 
 abbrev pub invariant-loop-a : goal.invariant-loop-a

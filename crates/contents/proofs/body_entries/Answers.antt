@@ -1,14 +1,8 @@
-use mathlib.Core.Path.{◌≡◌, refl, sym, ap, ◌∙◌}
-use mathlib.Core.Logic.{⊎_elim}
-use mathlib.Core.Bool.{cond}
-use Prim.Native.Nat.{◌+◌, ◌-◌, ◌≤◌, ◌<◌}
+use mathlib.Core.Path.{refl, sym, ap, ◌∙◌}
+use Prim.Native.Nat.{◌+◌, ◌≤◌, ◌<◌}
 use native.Mathlib.Omega.{arith}
-use lib.Dec.{ltb, leb}
-use lib.ListN.{length}
 use borrow.Author.Tests.{not-false}
 use Rattle.model.specs.Lists.{sum_before}
-use Rattle.model.specs.declared.Verdict.TheVariants.{Accepted}
-use Rattle.model.specs.Rows.{answer_of, all_rows}
 use Rattle.reading.specs.Bytes.{body_count, table, declarations_in, sizes_of, first_record}
 use Rattle.contents.specs.Contents.{entry_rows}
 use Rattle.model.proofs.Rows.{each_none, each_more}

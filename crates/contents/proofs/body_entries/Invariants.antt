@@ -1,19 +1,12 @@
-use mathlib.Core.Path.{◌≡◌, refl, sym, ap, ◌∙◌}
-use mathlib.Core.Logic.{⊎_elim}
+use mathlib.Core.Path.{◌≡◌}
 use mathlib.Core.Bool.{cond}
-use Prim.Native.Nat.{◌+◌, ◌-◌, ◌≤◌, ◌<◌}
-use native.Mathlib.Omega.{arith}
+use Prim.Native.Nat.{◌-◌, ◌≤◌}
 use lib.Dec.{ltb, leb}
 use lib.ListN.{length}
-use borrow.Author.Tests.{not-false}
-use Rattle.model.specs.Lists.{sum_before}
 use Rattle.model.specs.declared.Verdict.TheVariants.{Accepted}
 use Rattle.model.specs.Rows.{answer_of, all_rows}
-use Rattle.reading.specs.Bytes.{body_count, table, declarations_in, sizes_of, first_record}
+use Rattle.reading.specs.Bytes.{table, declarations_in, first_record}
 use Rattle.contents.specs.Contents.{entry_rows}
-use Rattle.model.proofs.Rows.{each_none, each_more}
-use Rattle.reading.proofs.Tables.{filled_first, filled_next, stored_next, first_zero}
-use Rattle.contents.proofs.Entries.{Walked, walk_ends, walk_stops, body_stops, body_passes, records_more}
 use Rattle.contents.proofs.body_entries.Given as goal
 
 abbrev pub invariant-loop-b : goal.invariant-loop-b

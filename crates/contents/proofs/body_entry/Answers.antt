@@ -3,7 +3,6 @@ use Prim.Native.Nat.{ℕ, ◌+◌}
 use native.Mathlib.Omega.{arith}
 use Rattle.reading.specs.Bytes.{byte_at, u16_at, entry_at}
 use Rattle.contents.proofs.Entries.{BodyEntry, body_answer, body_low}
-use Rattle.std.proofs.Common.{rules}
 use Rattle.contents.proofs.body_entry.Goals as goal
 
 pub number_at-n-requires : goal.number_at-n-requires

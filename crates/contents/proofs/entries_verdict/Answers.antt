@@ -1,6 +1,5 @@
 use mathlib.Core.Path.{refl}
 use native.Mathlib.Omega.{arith}
-use Rattle.std.proofs.Common.{rules}
 use Rattle.contents.proofs.entries_verdict.Goals as goal
 
 pub returns-then-at-count : goal.returns-then-at-count

@@ -1,6 +1,5 @@
 use mathlib.Core.Path.{refl}
 use Rattle.reading.specs.Bytes.{table}
-use Rattle.std.proofs.Common.{rules}
 use Rattle.contents.proofs.nothing_found.Goals as goal
 
 pub returns : goal.returns

@@ -7,10 +7,9 @@ use Rattle.model.specs.Rows.{answer_of, all_rows}
 use Rattle.reading.specs.Bytes.{array_count, body_count, entry_at, record_count, bodies_at}
 use Rattle.frame.specs.Frame.{header_rows}
 use Rattle.contents.specs.Contents.{array_rows, entry_rows}
-use Rattle.model.proofs.Rows.{refused, turned}
+use Rattle.model.proofs.Rows.{refused}
 use Rattle.contents.proofs.Places.{front_header, front_short, front_arrays, front_bodies, front_tail, nothing, all}
 use Rattle.contents.proofs.Bounds.{header_bounds}
-use Rattle.std.proofs.Common.{rules}
 use Rattle.contents.proofs.outline.Goals as goal
 
 pub returns-in_default : goal.returns-in_default

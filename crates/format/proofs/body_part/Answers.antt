@@ -3,7 +3,7 @@ use Rattle.model.specs.declared.Verdict.TheVariants.{Accepted}
 use Rattle.reading.specs.Bytes.{body_count}
 use Rattle.format.specs.Opening.{opening}
 use Rattle.contents.specs.Inner.Findings.{found}
-use Rattle.model.proofs.Rows.{refused, turned}
+use Rattle.model.proofs.Rows.{refused}
 use Rattle.format.proofs.Views.{view_unopened, view_none, part_none, Range, body_range, part_there}
 use Rattle.format.proofs.Walking.{verdict_is, found_is}
 use Prim.Native.Nat.{◌+◌, ◌<◌}

@@ -2,7 +2,6 @@ use mathlib.Core.Path.{◌≡◌}
 use Prim.Native.Nat.{◌+◌, ◌-◌}
 use native.Mathlib.Omega.{arith}
 use Rattle.format.proofs.Views.{part_view, part_begins}
-use Rattle.std.proofs.Common.{rules}
 use Rattle.format.proofs.body_view.Goals as goal
 
 pub returns : goal.returns

@@ -1,6 +1,5 @@
 use mathlib.Core.Path.{ap, ◌∙◌}
 use Rattle.format.proofs.Views.{part_answer}
-use Rattle.std.proofs.Common.{rules}
 use Rattle.format.proofs.body_view_answer.Goals as goal
 
 pub returns : goal.returns

@@ -4,10 +4,8 @@ use Rattle.model.specs.Rows.{answer_of}
 use Rattle.contents.specs.Found.{found_by}
 use Rattle.format.specs.Opening.{opened}
 use Rattle.contents.specs.Contents.{front_rows}
-use Rattle.model.proofs.Rows.{turned}
 use Rattle.format.proofs.Opening.{open_front, open_records}
 use Rattle.contents.proofs.Places.{nothing}
-use Rattle.std.proofs.Common.{rules}
 use Rattle.format.proofs.open.Goals as goal
 
 pub returns-in_default : goal.returns-in_default

@@ -1,11 +1,9 @@
 use mathlib.Core.Path.{sym, ap, ◌∙◌}
 use native.Mathlib.Omega.{arith}
-use Rattle.model.specs.declared.Verdict.{Verdict}
 use Rattle.model.specs.declared.Verdict.TheVariants.{Accepted}
 use Rattle.reading.specs.Bytes.{nests, first_arm, second_arm, turns_of}
-use Rattle.model.proofs.Rows.{turned}
 use Rattle.records.proofs.Records.{Answers, at_end, at_record, Passes, inside, few, at_first, at_second, at_next, at_leaf}
-use Prim.Native.Nat.{ℕ, ◌+◌, ◌-◌, ◌*◌, ◌≤◌, ◌<◌}
+use Prim.Native.Nat.{◌+◌, ◌*◌}
 use Rattle.std.proofs.Common.{rules}
 use Rattle.records.proofs.+block.Goals as goal
 

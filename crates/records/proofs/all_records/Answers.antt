@@ -1,11 +1,8 @@
 use mathlib.Core.Path.{◌≡◌, ap, sym, ◌∙◌}
-use Prim.Native.Nat.{◌-◌, ◌≤◌, ◌<◌}
+use Prim.Native.Nat.{◌<◌}
 use native.Mathlib.Omega.{arith}
-use Rattle.model.specs.declared.Verdict.TheVariants.{Accepted}
-use Rattle.model.specs.Rows.{answer_of, all_rows}
 use Rattle.reading.specs.Bytes.{body_count}
-use Rattle.records.specs.Records.{body_rows}
-use Rattle.model.proofs.Rows.{turned, each_none, each_more, each_stop}
+use Rattle.model.proofs.Rows.{each_none, each_more, each_stop}
 use Rattle.contents.proofs.Bounds.{bounds_of}
 use Rattle.contents.proofs.Found.{BodyAt, body_at}
 use Rattle.records.proofs.Records.{body_records}

@@ -1,0 +1,2 @@
+-- What the proof of the line cites.
+pub mod Cases

@@ -1,0 +1,16 @@
+-- `report_of` reports the run of a plan on the program's memories.
+use Rattle.std.proofs.Common.{arith}
+use Rattle.run.specs.Running.{lent}
+use Rattle.report.specs.Reports.{nothing}
+use Rattle.report.proofs.Rooms.{roomy}
+use Rattle.report.proofs.report_of.Goals as goal
+
+pub returns : goal.returns
+returns c =
+    let u = c.args in
+    record {
+      runs = c.run-counted.ensures;
+      roomy = roomy u.plan.now (lent u.host.now u.card.now u.latest.now nothing) (omega arith) (omega arith) (omega arith);
+      values = c.values_of.ensures;
+      ending = c.ending_of.ensures;
+    }

@@ -1,0 +1,41 @@
+#!/usr/bin/env bash
+# Builds what is used outside the prover: the programs into target/bin, the static library into target/staticlib. A crate is proved first, or nothing is built of it.
+#
+#     bash tools/build.sh [NAME..]                from anywhere in the repository; no name: all of them
+set -uo pipefail
+cd "$(dirname "$0")/.." || exit 2
+
+failed=0
+mkdir -p target/bin target/staticlib
+
+# `rt run` proves, builds and runs; the run itself is of no interest here.
+build_program() { # NAME
+    rm -f "crates/$1/out/$1"
+    rt run "$1" </dev/null >"target/$1.log" 2>&1
+    if [ -x "crates/$1/out/$1" ]; then
+        cp -f "crates/$1/out/$1" "target/bin/$1"
+    else
+        cat "target/$1.log"
+        echo "$1 was not built"
+        failed=1
+    fi
+}
+
+build_library() { # NAME
+    if rt lib "$1" >"target/$1.log" 2>&1 && [ -f "crates/$1/out/lib$1.a" ]; then
+        cp -f "crates/$1/out/lib$1.a" "target/staticlib/lib$1.a"
+    else
+        cat "target/$1.log"
+        echo "lib$1.a was not built"
+        failed=1
+    fi
+}
+
+for name in "${@:-exports}"; do
+    [ "$name" = exports ] && build_library exports
+done
+for main in crates/*/src/main.rt; do
+    name=$(basename "$(dirname "$(dirname "$main")")")
+    if [ $# -eq 0 ] || [[ " $* " == *" $name "* ]]; then build_program "$name"; fi
+done
+exit $failed
