@@ -11,7 +11,7 @@ mkdir -p target/bin target/staticlib
 # `rt run` proves, builds and runs; the run itself is of no interest here.
 build_program() { # NAME
     rm -f "crates/$1/out/$1"
-    rt run "$1" </dev/null >"target/$1.log" 2>&1
+    (cd "crates/$1" && rt run) </dev/null >"target/$1.log" 2>&1
     if [ -x "crates/$1/out/$1" ]; then
         cp -f "crates/$1/out/$1" "target/bin/$1"
     else
@@ -22,7 +22,7 @@ build_program() { # NAME
 }
 
 build_library() { # NAME
-    if rt lib "$1" >"target/$1.log" 2>&1 && [ -f "crates/$1/out/lib$1.a" ]; then
+    if (cd "crates/$1" && rt lib) >"target/$1.log" 2>&1 && [ -f "crates/$1/out/lib$1.a" ]; then
         cp -f "crates/$1/out/lib$1.a" "target/staticlib/lib$1.a"
     else
         cat "target/$1.log"

@@ -1,19 +1,24 @@
-// HaveLed a router's log, of any length, against a plain plan: reads both files, whose paths are its arguments, and prints the answer's line, the file's kind (0 if it does not
+// Holds a router's log, of any length, against a plain plan: reads both files, whose paths are its arguments, and prints the answer's line, the file's kind (0 if it does not
 // open), the answer's number, its place, its entry; then in words what is wrong, and with which records a run would have gone on.
 #![tactic(auto)]
+
 ghost use Rattle.std.specs.Prelude.{◌+◌, ◌^◌, ◌≤◌, ◌<◌, length};
-ghost use Rattle.io.specs.Counts.{IsPrefixLen};
+ghost use Rattle.input.specs.Counts.{IsPrefixLen};
 ghost use Rattle.logs.specs.Inner.Following.{Underway, Opens};
 
-use console::page::{Page, finish};
+use console::arguments::argument_count;
+use console::page::{Page, blank, finish};
+use console::streams::{Stream, put};
 use contents::Opened;
 use input::files::{open_argument, read_argument, read_on};
 use input::{Input, ROOM};
-use libc::STDERR_FILENO;
 use logs::refused_before;
 use model::Verdict;
 use printing::{entry_lines, unplaced_lines};
 use stages::{Stage, first_stage, next_stage, said};
+use std::env::Env;
+use std::io::{Read, Stderr, Stdout};
+use std::rt::Files;
 
 mod printing;
 mod stages;
@@ -75,14 +80,21 @@ fn last_lines(page: &mut Page, at: usize, o: Opened, odd: bool) -> usize {
 }
 
 // Reads the next part of the log file that the second argument names.
-fn read_part(fd: i32, part: &mut Part) -> Input
+fn read_part<R: Env, F: Read>(rt: &R, err: Stderr, log: &mut F, part: &mut Part) -> Input
     ensures { IsPrefixLen result.size part.new × (result.size ≤ 16384) }
 {
-    read_on(b"planlog", 2, b"log file", fd, part)
+    read_on(rt, err, b"planlog", 2, b"log file", log, part)
 }
 
 // What is printed of the log file that the second argument names; nothing where it cannot be read to its end.
-fn log_lines(page: &mut Page, plan: &[u8], o: Opened, fd: i32) -> usize
+fn log_lines<R: Env, F: Read>(
+    rt: &R,
+    err: Stderr,
+    page: &mut Page,
+    plan: &[u8],
+    o: Opened,
+    log: &mut F,
+) -> usize
     requires { Opens plan.now o }
 {
     let mut part = [0u8; PART];
@@ -92,7 +104,7 @@ fn log_lines(page: &mut Page, plan: &[u8], o: Opened, fd: i32) -> usize
     };
     let mut k = 0u64;
     while k < PARTS {
-        let input = read_part(fd, &mut part);
+        let input = read_part(rt, err, log, &mut part);
         if input.failed {
             return 0;
         }
@@ -107,39 +119,39 @@ fn log_lines(page: &mut Page, plan: &[u8], o: Opened, fd: i32) -> usize
 }
 
 // Prints the answer to a plan and that log file.
-fn answer(plan: &[u8], fd: i32) {
-    let mut page = [0u8; 4096];
+fn answer<R: Env, F: Read>(rt: &R, out: Stdout, err: Stderr, plan: &[u8], log: &mut F) {
+    let mut page = blank(Stream::Out(out));
     let o = format::open(plan);
     let v = refused_before(o, false);
     let Verdict::Accepted = v else {
         let refused = unplaced_lines(&mut page, o.kind, v);
-        finish(b"planlog", &page, refused);
+        finish(err, b"planlog", &page, refused);
         return;
     };
-    let at = log_lines(&mut page, plan, o, fd);
-    finish(b"planlog", &page, at);
+    let at = log_lines(rt, err, &mut page, plan, o, log);
+    finish(err, b"planlog", &page, at);
 }
 
 // The same of the plan file that the first argument names.
-fn log_files() {
+fn log_files<R: Env + Files>(rt: &R, out: Stdout, err: Stderr) {
     let mut plan = [0u8; ROOM];
-    let input = read_argument(b"planlog", 1, b"plan file", &mut plan);
+    let input = read_argument(rt, err, b"planlog", 1, b"plan file", &mut plan);
     if input.failed {
         return;
     }
-    let fd = open_argument(b"planlog", 2, b"log file");
-    if fd < 0 {
+    let Some(log) = open_argument(rt, err, b"planlog", 2, b"log file") else {
         return;
-    }
+    };
+    let mut log = log;
     let n = input.size;
-    answer(&plan[..n], fd);
-    libc::close(fd);
+    answer(rt, out, err, &plan[..n], &mut log);
 }
 
-fn main() {
-    if os::arg_count() == 3 {
-        log_files();
+fn main(rt: HostRuntime) {
+    let err = rt.stderr();
+    if argument_count(&rt) == 3 {
+        log_files(&rt, rt.stdout(), err);
         return;
     }
-    io::write_all(STDERR_FILENO, b"usage: planlog PLAN LOG\n");
+    put(err, b"usage: planlog PLAN LOG\n");
 }
