@@ -1,4 +1,4 @@
-//! Links `libexports.a` when the feature `archive` is on.
+//! Links `libexports.a`.
 //!
 //! The folder is taken from `CUPLIHANG_LIB`, else `../target/staticlib`
 //! beside this package.
@@ -9,9 +9,6 @@ use std::path::PathBuf;
 fn main() {
     println!("cargo:rerun-if-changed=build.rs");
     println!("cargo:rerun-if-env-changed=CUPLIHANG_LIB");
-    if env::var_os("CARGO_FEATURE_ARCHIVE").is_none() {
-        return;
-    }
     let here = PathBuf::from(env::var_os("CARGO_MANIFEST_DIR").unwrap());
     let folder = match env::var_os("CUPLIHANG_LIB") {
         Some(folder) => PathBuf::from(folder),

@@ -21,19 +21,18 @@ build_program() { # NAME
     fi
 }
 
-build_library() { # NAME
-    if (cd "crates/$1" && rt lib) >"target/$1.log" 2>&1 && [ -f "crates/$1/out/lib$1.a" ]; then
-        cp -f "crates/$1/out/lib$1.a" "target/staticlib/lib$1.a"
+# The functions of `exports` for C: the crate `exports_c` has an export for each.
+build_library() {
+    if (cd crates/exports_c && rt lib) >target/exports.log 2>&1 && [ -f crates/exports_c/out/libexports_c.a ]; then
+        cp -f crates/exports_c/out/libexports_c.a target/staticlib/libexports.a
     else
-        cat "target/$1.log"
-        echo "lib$1.a was not built"
+        cat target/exports.log
+        echo "libexports.a was not built"
         failed=1
     fi
 }
 
-for name in "${@:-exports}"; do
-    [ "$name" = exports ] && build_library exports
-done
+if [ $# -eq 0 ] || [[ " $* " == *" exports "* ]]; then build_library; fi
 for main in crates/*/src/main.rt; do
     name=$(basename "$(dirname "$(dirname "$main")")")
     if [ $# -eq 0 ] || [[ " $* " == *" $name "* ]]; then build_program "$name"; fi

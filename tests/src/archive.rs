@@ -52,9 +52,8 @@ pub fn body_view(plan: &[u8], body: u64) -> Result<Range<usize>, u16> {
     Err(number)
 }
 
-// ---- The later services, each switched on by its feature ----
+// ---- The later services, a module each ----
 
-#[cfg(feature = "sums")]
 mod summing {
     extern "C" {
         fn plan_back_sums(back: *const u8, back_length: usize) -> u64;
@@ -85,10 +84,8 @@ mod summing {
         unpack(unsafe { plan_joined_sums(front.as_ptr(), front.len(), back_sums) })
     }
 }
-#[cfg(feature = "sums")]
 pub use summing::*;
 
-#[cfg(feature = "check")]
 mod checking {
     use super::Answer;
 
@@ -100,10 +97,8 @@ mod checking {
         Answer::unpack(unsafe { plan_check(plan.as_ptr(), plan.len()) })
     }
 }
-#[cfg(feature = "check")]
 pub use checking::*;
 
-#[cfg(feature = "judge")]
 mod judging {
     use super::Answer;
 
@@ -133,10 +128,8 @@ mod judging {
         Err(Answer::unpack(packed))
     }
 }
-#[cfg(feature = "judge")]
 pub use judging::*;
 
-#[cfg(feature = "run")]
 mod running {
     use super::Answer;
 
@@ -222,10 +215,8 @@ mod running {
         }
     }
 }
-#[cfg(feature = "run")]
 pub use running::*;
 
-#[cfg(feature = "sheet")]
 mod sheets {
     extern "C" {
         // `figures` points to 25 numbers.
@@ -242,10 +233,8 @@ mod sheets {
         }
     }
 }
-#[cfg(feature = "sheet")]
 pub use sheets::*;
 
-#[cfg(feature = "log")]
 mod logging {
     use super::Answer;
 
@@ -268,5 +257,4 @@ mod logging {
         Answer::unpack(unsafe { plan_log(plan.as_ptr(), plan.len(), log.as_ptr(), log.len()) })
     }
 }
-#[cfg(feature = "log")]
 pub use logging::*;

@@ -4,7 +4,6 @@
 //! The walker is written from documents 01 and 02 alone and shares nothing with
 //! the library it is matched against.
 
-#[cfg(feature = "archive")]
 pub mod archive;
 pub mod examples;
 pub mod generate;

@@ -447,7 +447,6 @@ fn the_most_records() {
 
 /// The runs of what the library's expander writes never stop, and their tally
 /// is that of demand 3.
-#[cfg(feature = "judge")]
 #[test]
 fn runs_of_expansions() {
     let mut rng = Rng::new(83);

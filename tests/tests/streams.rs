@@ -4,7 +4,7 @@
 use cuplihang_tests::generate::*;
 use cuplihang_tests::programs::{ended, path, text};
 use cuplihang_tests::walker::plancheck::line;
-use std::fs::{read_to_string, File};
+use std::fs::{create_dir_all, read_to_string, remove_file, File};
 use std::io::Write;
 use std::path::{Path, PathBuf};
 use std::process::{Command, Stdio};
@@ -182,4 +182,29 @@ fn a_script_asks_for_the_verdict_of_an_expansion() {
         ("examples", false),
     ];
     a_script_asks(command, "examples/labels.plan", &plans);
+}
+
+/// A line that the README gives: a refused plan leaves no file behind, an accepted one its expansion.
+#[test]
+fn a_refused_expansion_leaves_no_file() {
+    let command = "target/bin/planexpand < examples/labels.plan > expansion.part && test -s expansion.part && mv expansion.part expansion.plan || { rm -f expansion.part; false; }";
+    let page = read_to_string(Path::new(ROOT).join("README.md")).unwrap();
+    assert!(page.contains(command), "the README has another line");
+    let folder = Path::new(env!("CARGO_TARGET_TMPDIR")).join("a_refused_expansion_leaves_no_file");
+    create_dir_all(&folder).unwrap();
+    let [part, whole] = ["expansion.part", "expansion.plan"].map(|name| folder.join(name));
+    for (plan, accepted) in
+        [("examples/labels.plan", true), ("examples/case-03.plan", false), ("/dev/null", false)]
+    {
+        let line = command
+            .replace("target/bin/planexpand", path("planexpand").to_str().unwrap())
+            .replace("examples/labels.plan", plan)
+            .replace("expansion.", folder.join("expansion.").to_str().unwrap());
+        for run in [by_sh, by_make] {
+            let _ = remove_file(&whole);
+            assert_eq!(run(&line), accepted, "{line}");
+            assert_eq!(whole.exists(), accepted, "{line}");
+            assert!(!part.exists(), "{line}");
+        }
+    }
 }

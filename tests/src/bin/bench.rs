@@ -80,95 +80,62 @@ fn on<'a>(files: &'a [Vec<u8>], room: &'a RefCell<Room>, work: Work) -> impl FnM
     }
 }
 
-/// Prints one line: the library's time where it is linked, the walker's, the
-/// ratio. Gives the library's time, else the walker's.
-fn compare(name: &str, files: &[Vec<u8>], choices: &[u8], library: Option<Work>, walker: Work) -> f64 {
+/// Prints one line: the library's time, the walker's, the ratio. Gives the
+/// library's time.
+fn compare(name: &str, files: &[Vec<u8>], choices: &[u8], library: Work, walker: Work) -> f64 {
     let room = Room::new(choices);
-    let mut walk = on(files, &room, walker);
-    let Some(library) = library else {
-        let [theirs] = times([&mut walk]);
-        println!("{name:<48} walker {theirs:>13.0} ns");
-        return theirs;
-    };
-    let [ours, theirs] = times([&mut on(files, &room, library), &mut walk]);
+    let [ours, theirs] = times([&mut on(files, &room, library), &mut on(files, &room, walker)]);
     println!("{name:<48} library {ours:>13.0} ns  walker {theirs:>13.0} ns  ratio {:.2}", ours / theirs);
     ours
 }
 
-/// The library's services, as far as they are linked.
+/// The library's services.
 mod library {
     use super::Work;
-    #[cfg(feature = "archive")]
-    use {cuplihang_tests::archive, std::hint::black_box};
+    use cuplihang_tests::archive;
+    use std::hint::black_box;
 
-    #[cfg(not(feature = "archive"))]
-    pub const OPEN: Option<Work> = None;
-    #[cfg(feature = "archive")]
-    pub const OPEN: Option<Work> = Some(|file, _| {
+    pub const OPEN: Work = |file, _| {
         black_box(archive::open(file));
-    });
+    };
 
-    #[cfg(not(feature = "sums"))]
-    pub const SUMS: Option<Work> = None;
-    #[cfg(feature = "sums")]
-    pub const SUMS: Option<Work> = Some(|file, _| {
+    pub const SUMS: Work = |file, _| {
         black_box(archive::back_sums(file));
-    });
+    };
 
-    #[cfg(not(feature = "sums"))]
-    pub const BACK_FIRST: Option<Work> = None;
-    #[cfg(feature = "sums")]
-    pub const BACK_FIRST: Option<Work> = Some(|file, _| {
+    pub const BACK_FIRST: Work = |file, _| {
         let (front, back) = file.split_at(file.len() / 2);
         black_box(archive::joined_sums(front, archive::packed(archive::back_sums(back))));
-    });
+    };
 
-    #[cfg(not(feature = "check"))]
-    pub const CHECK: Option<Work> = None;
-    #[cfg(feature = "check")]
-    pub const CHECK: Option<Work> = Some(|file, _| {
+    pub const CHECK: Work = |file, _| {
         black_box(archive::check(file));
-    });
+    };
 
-    #[cfg(not(feature = "judge"))]
-    pub const JUDGE: Option<Work> = None;
-    #[cfg(feature = "judge")]
-    pub const JUDGE: Option<Work> = Some(|file, _| {
+    pub const JUDGE: Work = |file, _| {
         black_box(archive::judge(file));
-    });
+    };
 
-    #[cfg(not(feature = "judge"))]
-    pub const EXPAND: Option<Work> = None;
-    #[cfg(feature = "judge")]
-    pub const EXPAND: Option<Work> = Some(|file, room| {
+    pub const EXPAND: Work = |file, room| {
         black_box(archive::expand(file, &mut room.out));
-    });
+    };
 
-    #[cfg(not(feature = "run"))]
-    pub const RUN: Option<Work> = None;
-    #[cfg(feature = "run")]
-    pub const RUN: Option<Work> = Some(|file, room| {
+    pub const RUN: Work = |file, room| {
         let (memories, choices) = room.memories();
         let (mut tally, mut end) = ([0; 3], [0; 5]);
         black_box(archive::run(file, memories, choices, &mut tally, &mut end));
-    });
+    };
 
     /// The log stands where the choices do.
-    #[cfg(not(feature = "log"))]
-    pub const LOG: Option<Work> = None;
-    #[cfg(feature = "log")]
-    pub const LOG: Option<Work> = Some(|file, room| {
+    pub const LOG: Work = |file, room| {
         black_box(archive::log_answer(file, &room.choices));
-    });
+    };
 
-    #[cfg(not(feature = "sheet"))]
-    pub const SHEET: Option<Work> = None;
-    #[cfg(feature = "sheet")]
-    pub const SHEET: Option<Work> = Some(|file, _| {
+    pub const SHEET: Work = |file, _| {
         let mut figures = [0; 25];
         let _ = black_box(archive::sheet(file[0].into(), &mut figures));
         black_box(figures);
-    });
+    };
 }
 
 fn small_plans(seed: u64, count: usize) -> Vec<Vec<u8>> {
@@ -228,14 +195,8 @@ fn sums_beside(name: &str, input: &[Vec<u8>]) {
         black_box(plain_sums::by_columns(bytes));
     });
     let in_rust = ["remainder at each byte", "byte by byte", "by columns"];
-    let Some(library) = library::SUMS else {
-        for (form, time) in in_rust.iter().zip(times([&mut remainder, &mut by_bytes, &mut by_columns])) {
-            println!("{name:<48} in Rust, {form:<24} {:>7.3} bytes/ns", length / time);
-        }
-        return;
-    };
-    let [ours, theirs @ ..] =
-        times([&mut on(input, &room, library), &mut remainder, &mut by_bytes, &mut by_columns]);
+    let mut library = on(input, &room, library::SUMS);
+    let [ours, theirs @ ..] = times([&mut library, &mut remainder, &mut by_bytes, &mut by_columns]);
     println!("{name:<48} library {ours:>13.0} ns  {:>7.3} bytes/ns", length / ours);
     for (form, time) in in_rust.iter().zip(theirs) {
         let speed = length / time;
@@ -374,13 +335,8 @@ fn copied_cell() {
             to.copy_from_slice(from);
         }
     };
-    let Some(run) = library::RUN else {
-        let [plain] = times([&mut plain]);
-        println!("{:<48} in Rust {:.3} ns", "run: a copied cell", plain / cells);
-        return;
-    };
     let file = [encode(&copying(COPIES, CELLS as u16))];
-    let [ours, plain] = times([&mut on(&file, &room, run), &mut plain]);
+    let [ours, plain] = times([&mut on(&file, &room, library::RUN), &mut plain]);
     let (cell, plain_cell) = (ours / cells, plain / cells);
     println!(
         "{:<48} library {cell:>13.3} ns  in Rust {plain_cell:>12.3} ns  ratio {:.2}",
