@@ -30,7 +30,7 @@ fn number_of(s: &[u8]) -> u64 {
     n
 }
 
-// The number that argument i is; NO_NUMBER where there is no such argument, and where it is longer than every path.
+// The number that argument i is; NO_NUMBER where there is no such argument, and where it has over 4,096 bytes.
 pub fn number_argument(env: &impl Env, i: usize) -> u64 {
     let mut text = [0u8; 4096];
     match env.arg(i, &mut text) {

@@ -12,7 +12,7 @@ pub mod files;
 // (specs/Longer).
 pub const ROOM: usize = 8391;
 
-// What reading gave: so many bytes at the front of the room, or a failure, and why it failed.
+// What reading gave: so many bytes at the front of the room, or a failure; and of a read that failed, why.
 #[derive(Clone, Copy)]
 pub struct Input {
     pub size: usize,
