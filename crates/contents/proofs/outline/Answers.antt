@@ -1,80 +1,57 @@
 use mathlib.Core.Path.{◌≡◌, refl, sym, ap, ◌∙◌}
-use Prim.Native.Nat.{◌≤◌}
-use native.Mathlib.Omega.{arith}
+use mathlib.Core.List.{List}
+use Prim.Native.Nat.{ℕ, ◌≤◌}
 use lib.ListN.{length}
-use Rattle.model.specs.declared.Verdict.TheVariants.{Accepted}
-use Rattle.model.specs.Rows.{answer_of, all_rows}
-use Rattle.reading.specs.Bytes.{array_count, body_count, entry_at, record_count, bodies_at}
-use Rattle.frame.specs.Frame.{header_rows}
-use Rattle.contents.specs.Contents.{array_rows, entry_rows}
+use Rattle.reading.specs.Bytes.{body_count, entry_at, bodies_at}
 use Rattle.model.proofs.Rows.{refused}
 use Rattle.contents.proofs.Places.{front_header, front_short, front_arrays, front_bodies, front_tail, nothing, all}
 use Rattle.contents.proofs.Bounds.{header_bounds}
 use Rattle.contents.proofs.outline.Goals as goal
+
+-- where the bodies stand, by the number of bodies that the header gives
+module _ (f : List ℕ) (offset bodies : ℕ) (p : offset ≡ entry_at f bodies) (e : bodies ≡ body_count f) where
+  placed : offset ≡ bodies_at f
+  placed = p ∙ ap (entry_at f) e
+
+  within : offset ≤ length f → bodies_at f ≤ length f
+  within l = rw placed at l
 
 pub returns-in_default : goal.returns-in_default
 returns-in_default c = nothing _ _ _ _ c.in_default.not-Accepted c.nothing_found.ensures (front_header _ _ c.in_default.not-Accepted c.header-h.ensures)
 
 pub returns-then-plan-offset : goal.returns-then-plan-offset
 returns-then-plan-offset c =
-    let headed : Accepted ≡ answer_of (header_rows c.args.plan.now) = sym c.in-Accepted.is ∙ c.header-h.ensures in
-    let offset-is : c.entry_at-offset.result ≡ bodies_at c.args.plan.now = c.entry_at-offset.ensures.place ∙ ap (entry_at c.args.plan.now) c.byte-bodies.ensures in
-    nothing _ _ _ _ (refused refl) c.nothing_found-then-plan-offset.ensures (front_short _ (headed) (rw (offset-is) at c.if-plan-offset.true))
+    let offset-is = placed c.args.plan.now _ _ c.entry_at-offset.ensures.place c.byte-bodies.ensures in
+    nothing _ _ _ _ (refused refl) c.nothing_found-then-plan-offset.ensures (front_short _ (sym c.in-Accepted.is ∙ c.header-h.ensures) (rw offset-is at c.if-plan-offset.true))
 
 pub array_entries-a-requires : goal.array_entries-a-requires
-array_entries-a-requires c =
-    let headed : Accepted ≡ answer_of (header_rows c.args.plan.now) = sym c.in-Accepted.is ∙ c.header-h.ensures in
-    let offset-is : c.entry_at-offset.result ≡ bodies_at c.args.plan.now = c.entry_at-offset.ensures.place ∙ ap (entry_at c.args.plan.now) c.byte-bodies.ensures in
-    let within : bodies_at c.args.plan.now ≤ length c.args.plan.now = rw (offset-is) at c.if-plan-offset.false in
-    ((header_bounds _ (headed)).arrays.1, within)
+array_entries-a-requires c = ((header_bounds _ (sym c.in-Accepted.is ∙ c.header-h.ensures)).arrays.1, within _ _ _ c.entry_at-offset.ensures.place c.byte-bodies.ensures c.if-plan-offset.false)
 
 pub returns-in_default-av : goal.returns-in_default-av
 returns-in_default-av c =
-    let headed : Accepted ≡ answer_of (header_rows c.args.plan.now) = sym c.in-Accepted.is ∙ c.header-h.ensures in
-    let offset-is : c.entry_at-offset.result ≡ bodies_at c.args.plan.now = c.entry_at-offset.ensures.place ∙ ap (entry_at c.args.plan.now) c.byte-bodies.ensures in
-    let within : bodies_at c.args.plan.now ≤ length c.args.plan.now = rw (offset-is) at c.if-plan-offset.false in
-    let nay = c.in_default-av.not-Accepted in nothing _ _ _ _ nay c.nothing_found-in_default-av.ensures (front_arrays _ (headed) (within) _ nay c.array_entries-a.ensures.verdict)
+    let nay = c.in_default-av.not-Accepted in
+    nothing _ _ _ _ nay c.nothing_found-in_default-av.ensures (front_arrays _ (sym c.in-Accepted.is ∙ c.header-h.ensures) (within _ _ _ c.entry_at-offset.ensures.place c.byte-bodies.ensures c.if-plan-offset.false) _ nay c.array_entries-a.ensures.verdict)
 
 pub body_entries-b-requires : goal.body_entries-b-requires
-body_entries-b-requires c =
-    let headed : Accepted ≡ answer_of (header_rows c.args.plan.now) = sym c.in-Accepted.is ∙ c.header-h.ensures in
-    let offset-is : c.entry_at-offset.result ≡ bodies_at c.args.plan.now = c.entry_at-offset.ensures.place ∙ ap (entry_at c.args.plan.now) c.byte-bodies.ensures in
-    let within : bodies_at c.args.plan.now ≤ length c.args.plan.now = rw (offset-is) at c.if-plan-offset.false in
-    ((header_bounds _ (headed)).bodies.1, within)
+body_entries-b-requires c = ((header_bounds _ (sym c.in-Accepted.is ∙ c.header-h.ensures)).bodies.1, within _ _ _ c.entry_at-offset.ensures.place c.byte-bodies.ensures c.if-plan-offset.false)
 
 pub returns-in_default-bv : goal.returns-in_default-bv
 returns-in_default-bv c =
-    let headed : Accepted ≡ answer_of (header_rows c.args.plan.now) = sym c.in-Accepted.is ∙ c.header-h.ensures in
-    let offset-is : c.entry_at-offset.result ≡ bodies_at c.args.plan.now = c.entry_at-offset.ensures.place ∙ ap (entry_at c.args.plan.now) c.byte-bodies.ensures in
-    let within : bodies_at c.args.plan.now ≤ length c.args.plan.now = rw (offset-is) at c.if-plan-offset.false in
-    let arrays-pass : Accepted ≡ answer_of (all_rows (array_count c.args.plan.now) (array_rows c.args.plan.now)) = sym c.in-Accepted-av.is ∙ c.array_entries-a.ensures.verdict in
-    let nay = c.in_default-bv.not-Accepted in nothing _ _ _ _ nay c.nothing_found-in_default-bv.ensures (front_bodies _ (headed) (within) (arrays-pass) _ nay c.body_entries-b.ensures.verdict)
-
-pub tail-t-requires : goal.tail-t-requires
-tail-t-requires c =
-    let offset-is : c.entry_at-offset.result ≡ bodies_at c.args.plan.now = c.entry_at-offset.ensures.place ∙ ap (entry_at c.args.plan.now) c.byte-bodies.ensures in
-    let records_are : (c.body_entries-b.result.records ≡ record_count c.args.plan.now) × (c.body_entries-b.result.records ≤ 1024) = c.body_entries-b.ensures.records c.in-Accepted-bv.is in
-    let r = records_are in (offset-is, omega (arith, c.entry_at-offset.ensures.low), r.0, r.1)
+    let nay = c.in_default-bv.not-Accepted in
+    nothing _ _ _ _ nay c.nothing_found-in_default-bv.ensures (front_bodies _ (sym c.in-Accepted.is ∙ c.header-h.ensures) (within _ _ _ c.entry_at-offset.ensures.place c.byte-bodies.ensures c.if-plan-offset.false) (sym c.in-Accepted-av.is ∙ c.array_entries-a.ensures.verdict) _ nay c.body_entries-b.ensures.verdict)
 
 pub returns-in_default-t : goal.returns-in_default-t
 returns-in_default-t c =
-    let headed : Accepted ≡ answer_of (header_rows c.args.plan.now) = sym c.in-Accepted.is ∙ c.header-h.ensures in
-    let offset-is : c.entry_at-offset.result ≡ bodies_at c.args.plan.now = c.entry_at-offset.ensures.place ∙ ap (entry_at c.args.plan.now) c.byte-bodies.ensures in
-    let within : bodies_at c.args.plan.now ≤ length c.args.plan.now = rw (offset-is) at c.if-plan-offset.false in
-    let arrays-pass : Accepted ≡ answer_of (all_rows (array_count c.args.plan.now) (array_rows c.args.plan.now)) = sym c.in-Accepted-av.is ∙ c.array_entries-a.ensures.verdict in
-    let bodies-pass : Accepted ≡ answer_of (all_rows (body_count c.args.plan.now) (entry_rows c.args.plan.now)) = sym c.in-Accepted-bv.is ∙ c.body_entries-b.ensures.verdict in
-    nothing _ _ _ _ c.in_default-t.not-Accepted c.nothing_found-in_default-t.ensures (front_tail _ (headed) (within) (arrays-pass) (bodies-pass) _ c.tail-t.ensures)
+    nothing _ _ _ _ c.in_default-t.not-Accepted c.nothing_found-in_default-t.ensures (
+    front_tail _ (sym c.in-Accepted.is ∙ c.header-h.ensures) (within _ _ _ c.entry_at-offset.ensures.place c.byte-bodies.ensures c.if-plan-offset.false) (sym c.in-Accepted-av.is ∙ c.array_entries-a.ensures.verdict) (sym c.in-Accepted-bv.is ∙ c.body_entries-b.ensures.verdict) _ c.tail-t.ensures
+    )
 
 pub returns : goal.returns
 returns c =
-    let headed : Accepted ≡ answer_of (header_rows c.args.plan.now) = sym c.in-Accepted.is ∙ c.header-h.ensures in
-    let offset-is : c.entry_at-offset.result ≡ bodies_at c.args.plan.now = c.entry_at-offset.ensures.place ∙ ap (entry_at c.args.plan.now) c.byte-bodies.ensures in
-    let within : bodies_at c.args.plan.now ≤ length c.args.plan.now = rw (offset-is) at c.if-plan-offset.false in
-    let arrays-pass : Accepted ≡ answer_of (all_rows (array_count c.args.plan.now) (array_rows c.args.plan.now)) = sym c.in-Accepted-av.is ∙ c.array_entries-a.ensures.verdict in
-    let bodies-pass : Accepted ≡ answer_of (all_rows (body_count c.args.plan.now) (entry_rows c.args.plan.now)) = sym c.in-Accepted-bv.is ∙ c.body_entries-b.ensures.verdict in
-    let e = front_tail _ (headed) (within) (arrays-pass) (bodies-pass) _ (sym c.in-Accepted-t.is ∙ c.tail-t.ensures) in
     let a = c.array_entries-a.ensures in
     let ta = c.in-Accepted-av.is in
     let d = c.body_entries-b.ensures in
     let td = c.in-Accepted-bv.is in
-    rw (← e) (all _ _ _ _ _ _ _ _ _ _ c.byte.ensures c.byte-2.ensures c.byte-bodies.ensures (a.cells ta) (d.records td).0 (offset-is) (a.starts ta) (d.starts td) (d.declarations td))
+    let place = c.entry_at-offset.ensures.place in
+    let e = front_tail c.args.plan.now (sym c.in-Accepted.is ∙ c.header-h.ensures) (within _ _ _ place c.byte-bodies.ensures c.if-plan-offset.false) (sym ta ∙ a.verdict) (sym td ∙ d.verdict) _ (sym c.in-Accepted-t.is ∙ c.tail-t.ensures) in
+    rw (← e) (all _ _ _ _ _ _ _ _ _ _ c.byte.ensures c.byte-2.ensures c.byte-bodies.ensures (a.cells ta) (d.records td).0 (placed _ _ _ place c.byte-bodies.ensures) (a.starts ta) (d.starts td) (d.declarations td))
