@@ -17,9 +17,8 @@ use Rattle.model.proofs.Runs.{event}
 use Rattle.model.proofs.Stamps.{Past, past_effect}
 use Rattle.model.proofs.Needs.{flag_set, flag_clear}
 use Rattle.model.proofs.Unmet.{none_unmet}
+use Rattle.std.specs.Prelude.{Ok, Err}
 use Rattle.acts.specs.declared.Stored.{Stored}
-use Rattle.acts.specs.declared.Acted.{Acted}
-use Rattle.acts.specs.declared.Acted.TheVariants.{Done, Unmet}
 use Rattle.memories.specs.Memories.{number_of}
 use Rattle.memories.specs.Flags.{mask}
 use Rattle.memories.specs.Inner.Ranges.{FirstStale, Changed}
@@ -27,7 +26,7 @@ use Rattle.known.specs.declared.Known.{Known}
 use Rattle.known.specs.Inner.Knowing.{Knows, Wrote, Copied}
 use Rattle.known.proofs.Sets.{Piece, added_sound, dropped_sound}
 use Rattle.memories.proofs.Masks.{mask_same}
-use Rattle.acts.specs.Inner.Acting.{Low, with_verb, CellsAt, CellsOf, Holds, BothSetAs, FollowsAs, MovesCells}
+use Rattle.acts.specs.Inner.Acting.{Acted, Low, with_verb, CellsAt, CellsOf, Holds, BothSetAs, FollowsAs, MovesCells}
 use Rattle.acts.proofs.Stale.{range_piece, Sees, all_fine, stale_at}
 
 chosen_number : (b : Bool) (i j : ℕ) (x y : Stamp) → i ≡ number_of x → j ≡ number_of y → cond b i j ≡ number_of (cond b x y)
@@ -127,7 +126,7 @@ module _ {layout : Layout} {t : Side} {s : Stored} {own others latest : List ℕ
 
   module _ (x : Action) {k from to : ℕ} (z : CellsAt layout (with_verb read t x) k from to) where
     pub read_done : Low s → {r : ℕ} → FirstStale own latest k from to r → to ≤ r →
-        FollowsAs layout (with_verb read t x) t σ l own others latest (Done (record { flags = s.flags; other_flags = s.other_flags; reads = s.reads + 1; writes = s.writes; moved = s.moved; known = s.known })) own latest
+        FollowsAs layout (with_verb read t x) t σ l own others latest (Ok (record s { tally = record s.tally { reads = s.tally.reads + 1 } })) own latest
     read_done low {r} f m = (
       all_fine layout t own latest σ (sees_own low) (covers layout (with_verb read t x)) k from to (λ c i. z.cells c) (with_verb read t x) (λ c. refl) r f m,
       as_deed (with_verb read t x) (gets t) σ.flags refl (same_flags x σ.flags) λ past. record {
@@ -153,8 +152,8 @@ module _ {layout : Layout} {t : Side} {s : Stored} {own others latest : List ℕ
         stale_at layout t own latest σ (sees_own low) (covers layout (with_verb read t x)) k from to (λ c i. z.cells c) (with_verb read t x) (λ c. refl) r f m z.ends
 
   module _ (x : Action) {a : ℕ} {whole : Bool} {k from to : ℕ} (z : CellsOf layout (with_verb write t x) a whole k from to) where
-    pub write_done : (n : Known) → Wrote false whole a s.known n → {own' latest' : List ℕ} → Changed k from to (λ c. s.writes + 1) own own' → Changed k from to (λ c. s.writes + 1) latest latest' →
-        FollowsAs layout (with_verb write t x) t σ l own others latest (Done (record { flags = s.flags; other_flags = s.other_flags; reads = s.reads; writes = s.writes + 1; moved = s.moved; known = n })) own' latest'
+    pub write_done : (n : Known) → Wrote false whole a s.known n → {own' latest' : List ℕ} → Changed k from to (λ c. s.tally.writes + 1) own own' → Changed k from to (λ c. s.tally.writes + 1) latest latest' →
+        FollowsAs layout (with_verb write t x) t σ l own others latest (Ok (record s { tally = record s.tally { writes = s.tally.writes + 1 }; known = n })) own' latest'
     write_done n w {own'} a b = (
       none_unmet layout (with_verb write t x) σ (λ c i. or-true (not (covers layout (with_verb write t x) c))),
       as_deed (with_verb write t x) (puts t) σ.flags refl (same_flags x σ.flags) λ past. record {
@@ -163,7 +162,7 @@ module _ {layout : Layout} {t : Side} {s : Stored} {own others latest : List ℕ
         latest_room = omega (arith, h.latest_room, b.size);
         own_held = λ c i. own_changed z.range _ own' a c i (at (suc σ.writes)) (omega (arith, h.counted)) ∙ ap number_of (sym (put_own t (suc σ.writes) (σ.cell c) (covers layout (with_verb write t x) c)));
         others_held = λ c i. h.others_held c i ∙ ap number_of (sym (put_others t (suc σ.writes) (σ.cell c) (covers layout (with_verb write t x) c)));
-        latest_held = λ c i. b.cell c ∙ (chosen_stamp (stepped k from to c) (s.writes + 1) (get_or latest c 0) (suc σ.writes) (σ.cell c).latest (omega (arith, h.counted)) (h.latest_held c i) ∙ rw (← z.range.cells c) (sym (put_latest t (suc σ.writes) (σ.cell c) (covers layout (with_verb write t x) c))));
+        latest_held = λ c i. b.cell c ∙ (chosen_stamp (stepped k from to c) (s.tally.writes + 1) (get_or latest c 0) (suc σ.writes) (σ.cell c).latest (omega (arith, h.counted)) (h.latest_held c i) ∙ rw (← z.range.cells c) (sym (put_latest t (suc σ.writes) (σ.cell c) (covers layout (with_verb write t x) c))));
         own_flags = h.own_flags;
         others_flags = h.others_flags;
         reads = h.reads;
@@ -177,9 +176,9 @@ module _ {layout : Layout} {t : Side} {s : Stored} {own others latest : List ℕ
 
   -- a copy of the cells of y, whatever becomes of the flags
   module _ {y : Action} {a : ℕ} {whole : Bool} {k from to : ℕ} (z : CellsOf layout y a whole k from to) (still : same_verb y.verb write ≡ false) where
-    moved_cells : {s' s'' : Stored} {own' : List ℕ} (f : ℕ → Flags) → MovesCells a whole k from to s own others latest (Done s') own' →
-        s''.flags ≡ mask (length layout.lengths) (λ b. (f b).flag t) → s''.other_flags ≡ mask (length layout.lengths) (λ b. (f b).flag (other t)) →
-        s''.reads ≡ s'.reads → s''.writes ≡ s'.writes → s''.moved ≡ s'.moved → s''.known ≡ s'.known →
+    moved_cells : {s' s'' : Stored} {own' : List ℕ} (f : ℕ → Flags) → MovesCells a whole k from to s own others latest (Ok s') own' →
+        s''.host_flags ≡ mask (length layout.lengths) (λ b. (f b).flag t) → s''.card_flags ≡ mask (length layout.lengths) (λ b. (f b).flag (other t)) →
+        s''.tally.reads ≡ s'.tally.reads → s''.tally.writes ≡ s'.tally.writes → s''.tally.moved ≡ s'.tally.moved → s''.known ≡ s'.known →
         Past (after y (moves (other t) t, f)) → Holds layout t s'' own' others latest (after y (moves (other t) t, f)) (record { number = 0; action = y; deed = moves (other t) t } ∷ l)
     moved_cells {own' = own'} f (g, m, e, n) own_flags others_flags r w v q past = record {
       own_room = omega (arith, h.own_room, m.size);
@@ -190,10 +189,10 @@ module _ {layout : Layout} {t : Side} {s : Stored} {own others latest : List ℕ
       latest_held = λ c i. h.latest_held c i ∙ sym (move_latest t (suc σ.writes) (σ.cell c) (covers layout y c));
       own_flags = own_flags;
       others_flags = others_flags;
-      reads = r ∙ (ap (λ (z : Stored). z.reads) e ∙ h.reads);
-      writes = w ∙ (ap (λ (z : Stored). z.writes) e ∙ h.writes);
-      moved = omega (arith, v, ap (λ (z : Stored). z.moved) e, h.moved, z.range.count);
-      counted = rw still (w ∙ (ap (λ (z : Stored). z.writes) e ∙ h.counted));
+      reads = r ∙ (ap (λ (z : Stored). z.tally.reads) e ∙ h.reads);
+      writes = w ∙ (ap (λ (z : Stored). z.tally.writes) e ∙ h.writes);
+      moved = omega (arith, v, ap (λ (z : Stored). z.tally.moved) e, h.moved, z.range.count);
+      counted = rw still (w ∙ (ap (λ (z : Stored). z.tally.writes) e ∙ h.counted));
       past = past;
       knows = rw q (copied_known (range_piece z) n g m h.knows);
     }
@@ -207,12 +206,12 @@ module _ {layout : Layout} {t : Side} {s : Stored} {own others latest : List ℕ
   -- a copy
   pub copy_follows : (x : Action) {a : ℕ} {whole : Bool} {k from to : ℕ} → CellsOf layout (with_verb copy t x) a whole k from to → Low s → (r : Acted) (own' : List ℕ) →
       MovesCells a whole k from to s own others latest r own' → FollowsAs layout (with_verb copy t x) t σ l own others latest r own' latest
-  copy_follows x z low (Done s') own' m = (
+  copy_follows x z low (Ok s') own' m = (
     fine_source z refl low (λ c. refl) m.0,
     as_deed (with_verb copy t x) (moves (other t) t) σ.flags refl (same_flags x σ.flags)
-        (moved_cells z refl σ.flags m (ap (λ (z : Stored). z.flags) m.2 ∙ h.own_flags) (ap (λ (z : Stored). z.other_flags) m.2 ∙ h.others_flags) refl refl refl refl),
+        (moved_cells z refl σ.flags m (ap (λ (z : Stored). z.host_flags) m.2 ∙ h.own_flags) (ap (λ (z : Stored). z.card_flags) m.2 ∙ h.others_flags) refl refl refl refl),
   )
-  copy_follows x z low (Unmet c) own' (f, m, e) = (stale_source z refl low (λ c. refl) f m, e, refl)
+  copy_follows x z low (Err c) own' (f, m, e) = (stale_source z refl low (λ c. refl) f m, e, refl)
 
   module _ (x : Action) {a : ℕ} {whole : Bool} {k from to : ℕ} (z : CellsOf layout (with_verb need t x) a whole k from to) where
     abbrev y : Action
@@ -222,7 +221,7 @@ module _ {layout : Layout} {t : Side} {s : Stored} {own others latest : List ℕ
     own_flag b e = rw z.array e
 
     -- a need of an array whose flag is set
-    pub need_idle : (σ.flags a).flag t ≡ true → FollowsAs layout y t σ l own others latest (Done s) own latest
+    pub need_idle : (σ.flags a).flag t ≡ true → FollowsAs layout y t σ l own others latest (Ok s) own latest
     need_idle e = (
       none_unmet layout y σ (λ c i. ap (λ (r : Deed × Flags). not (covers layout y c) || needs r.0 (σ.cell c)) (flag_set t (σ.flags x.name) (own_flag true e)) ∙ or-true (not (covers layout y c))),
       as_deed y nothing σ.flags (ap (λ (r : Deed × Flags). r.0) (flag_set t (σ.flags x.name) (own_flag true e))) idle λ past. record {
@@ -274,25 +273,25 @@ module _ {layout : Layout} {t : Side} {s : Stored} {own others latest : List ℕ
           go false = refl
 
       pub need_follows : (r q : Acted) (own' : List ℕ) → MovesCells a whole k from to s own others latest r own' → BothSetAs r a q → FollowsAs layout y t σ l own others latest q own' latest
-      need_follows (Done s') (Done s'') own' m b =
+      need_follows (Ok s') (Ok s'') own' m b =
           let n = length layout.lengths in
           let one : a < n = rw z.array at z.range.one in (
             fine_source z refl low met_source m.0,
             as_deed y (moves (other t) t) both (ap (λ (r : Deed × Flags). r.0) (flag_clear t (σ.flags x.name) (own_flag false e))) both_set
                 (moved_cells z refl both m
-                (b.own n (λ b. (σ.flags b).flag t) one (ap (λ (z : Stored). z.flags) m.2 ∙ h.own_flags) ∙ mask_same n _ _ (λ d i. flag_both t d))
-                (b.others n (λ b. (σ.flags b).flag (other t)) one (ap (λ (z : Stored). z.other_flags) m.2 ∙ h.others_flags) ∙ mask_same n _ _ (λ d i. flag_both (other t) d))
+                (b.own n (λ b. (σ.flags b).flag t) one (ap (λ (z : Stored). z.host_flags) m.2 ∙ h.own_flags) ∙ mask_same n _ _ (λ d i. flag_both t d))
+                (b.others n (λ b. (σ.flags b).flag (other t)) one (ap (λ (z : Stored). z.card_flags) m.2 ∙ h.others_flags) ∙ mask_same n _ _ (λ d i. flag_both (other t) d))
                 b.reads b.writes b.moved b.known),
           )
-      need_follows (Done s') (Unmet c) own' m b = absurd b
-      need_follows (Unmet c) (Done s'') own' m b = absurd b
-      need_follows (Unmet c) (Unmet c') own' m b = rw b (stale_source z refl low met_source m.0 m.1, m.2, refl)
+      need_follows (Ok s') (Err c) own' m b = absurd b
+      need_follows (Err c) (Ok s'') own' m b = absurd b
+      need_follows (Err c) (Err c') own' m b = rw b (stale_source z refl low met_source m.0 m.1, m.2, refl)
 
   pub mark_done : (x : Action) (s' : Stored) →
-      s'.flags ≡ mask (length layout.lengths) (λ b. cond (eqb b x.name) true ((σ.flags b).flag t)) →
-      s'.other_flags ≡ mask (length layout.lengths) (λ b. cond (eqb b x.name) false ((σ.flags b).flag (other t))) →
-      s'.reads ≡ s.reads → s'.writes ≡ s.writes → s'.moved ≡ s.moved → s'.known ≡ s.known →
-      FollowsAs layout (with_verb mark t x) t σ l own others latest (Done s') own latest
+      s'.host_flags ≡ mask (length layout.lengths) (λ b. cond (eqb b x.name) true ((σ.flags b).flag t)) →
+      s'.card_flags ≡ mask (length layout.lengths) (λ b. cond (eqb b x.name) false ((σ.flags b).flag (other t))) →
+      s'.tally.reads ≡ s.tally.reads → s'.tally.writes ≡ s.tally.writes → s'.tally.moved ≡ s.tally.moved → s'.known ≡ s.known →
+      FollowsAs layout (with_verb mark t x) t σ l own others latest (Ok s') own latest
   mark_done x s' f g i j k w = (
     none_unmet layout (with_verb mark t x) σ (λ c i. or-true (not (covers layout (with_verb mark t x) c))),
     record {

@@ -15,7 +15,7 @@ use Rattle.model.specs.Runs.{lowest_unmet}
 use Rattle.model.proofs.Numbering.{own_span, stepped_bounds, stepped_one}
 use Rattle.model.proofs.Unmet.{unmet_first, none_unmet}
 use Rattle.memories.specs.Memories.{number_of}
-use Rattle.memories.specs.Inner.Ranges.{AllCurrent, FirstStale}
+use Rattle.memories.specs.Inner.Ranges.{FirstStale}
 use Rattle.memories.proofs.Cells.{stepped_below}
 use Rattle.known.proofs.Sets.{Piece}
 use Rattle.acts.specs.Inner.Acting.{cells_between, ArrayAt, CellsOf}
@@ -47,20 +47,6 @@ same_number (at j) k h e = eq-eqb j k e
 other_number : (x : Stamp) (k : ℕ) → (number_of x ≡ k → ⊥) → equals x k ≡ false
 other_number never k n = refl
 other_number (at j) k n = ne_eqb j k n
-
--- none of them is stale
-pub none_stale : {copies latest : List ℕ} {k from to r : ℕ} → FirstStale copies latest k from to r → to ≤ r → FirstStale copies latest k from to to
-none_stale {to = to} {r = r} f h = let e : r ≡ to = omega (arith, f.high) in rw e at f
-
--- the same where each cell between them is known to be current
-pub none_known : {copies latest : List ℕ} {k from to : ℕ} → from ≤ to → AllCurrent copies latest from to → FirstStale copies latest k from to to
-none_known {k = k} {from = from} {to = to} h w = record {
-  low = h;
-  high = omega arith;
-  before = λ c e. let p = stepped_bounds k from to c e in w c p.0 p.1;
-  one = λ l. absurd (omega arith);
-  here = λ l. absurd (omega arith);
-}
 
 -- a memory with the copies of side u, and the latest stamps
 pub record Sees (layout : Layout) (u : Side) (copies latest : List ℕ) (σ : State) : Type 0 where

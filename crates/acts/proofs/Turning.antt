@@ -6,7 +6,7 @@ use mathlib.Core.List.{List}
 use mathlib.Core.Option.{some}
 use native.Mathlib.Omega.{arith}
 use lib.Dec.{eqb}
-use lib.ListN.{length, get_or}
+use lib.ListN.{length}
 use borrow.Author.Tests.{eq-eqb, ne_eqb}
 use Rattle.model.specs.Sides.{Side, host, card, other, Layout}
 use Rattle.model.specs.Records.{Verb, read, write, copy, need, mark, Action}
@@ -16,15 +16,12 @@ use Rattle.reading.specs.declared.Fields.{Fields}
 use Rattle.format.specs.Plans.{side_of, action_of}
 use Rattle.format.proofs.Acts.{acting, by_kind}
 use Rattle.memories.specs.Flags.{mask}
-use Rattle.memories.specs.Inner.Ranges.{FirstStale, Changed, Same, of_side, ChangedOn}
-use Rattle.memories.proofs.Cells.{changed_same, same_all}
+use Rattle.memories.specs.Inner.Ranges.{FirstStale, Changed, of_side, ChangedOn}
 use Rattle.known.specs.declared.Known.{Known}
-use Rattle.known.specs.Inner.Knowing.{Wrote, Copied}
+use Rattle.known.specs.Inner.Knowing.{Wrote}
+use Rattle.std.specs.Prelude.{Ok, Err}
 use Rattle.acts.specs.declared.Stored.{Stored}
-use Rattle.acts.specs.declared.Acted.{Acted}
-use Rattle.acts.specs.declared.Acted.TheVariants.{Done, Unmet}
-use Rattle.acts.specs.Inner.Acting.{Low, with_verb, cells_between, CellsAt, ArrayAt, CellsOf, Holds, BothSetAs, FollowsAs, ActsAs, Acts, side_on, flags_on, MovesCells, MovesOn}
-use Rattle.acts.proofs.Stale.{none_stale}
+use Rattle.acts.specs.Inner.Acting.{Acted, Low, with_verb, CellsAt, ArrayAt, CellsOf, Holds, BothSetAs, FollowsAs, ActsAs, Acts, side_on, flags_on, MovesCells, MovesOn}
 use Rattle.acts.proofs.Acting.{read_done, read_unmet, write_done, copy_follows, need_idle, need_follows, mark_done}
 
 -- what is known, seen from the other side
@@ -33,7 +30,7 @@ turned k = record { host = k.card; card = k.host }
 
 -- what is stored, seen from the other side
 abbrev swapped : Stored → Stored
-swapped s = record { flags = s.other_flags; other_flags = s.flags; reads = s.reads; writes = s.writes; moved = s.moved; known = turned s.known }
+swapped s = record { host_flags = s.card_flags; card_flags = s.host_flags; tally = s.tally; known = turned s.known }
 
 -- and seen from a side
 abbrev seen : Bool → Stored → Stored
@@ -41,25 +38,25 @@ seen true s = swapped s
 seen false s = s
 
 abbrev seen_as : Bool → Acted → Acted
-seen_as b (Done s) = Done (seen b s)
-seen_as b (Unmet c) = Unmet c
+seen_as b (Ok s) = Ok (seen b s)
+seen_as b (Err c) = Err c
 
 low_seen : (b : Bool) {s : Stored} → Low s → Low (seen b s)
 low_seen true low = record { reads = low.reads; writes = low.writes; moved = low.moved }
 low_seen false low = low
 
 moves_seen : (b : Bool) (a : ℕ) (whole : Bool) (k from to : ℕ) (s : Stored) (own others latest own' : List ℕ) (r : Acted) → MovesCells a whole k from to s own others latest r own' → MovesCells a whole k from to (seen b s) own others latest (seen_as b r) own'
-moves_seen true a whole k from to s own others latest own' (Done s') (f, m, e, n) = (f, m, ap swapped e, record { on_host = n.on_card; on_card = n.on_host })
-moves_seen true a whole k from to s own others latest own' (Unmet c) m = m
-moves_seen false a whole k from to s own others latest own' (Done s') m = m
-moves_seen false a whole k from to s own others latest own' (Unmet c) m = m
+moves_seen true a whole k from to s own others latest own' (Ok s') (f, m, e, n) = (f, m, ap swapped e, record { on_host = n.on_card; on_card = n.on_host })
+moves_seen true a whole k from to s own others latest own' (Err c) m = m
+moves_seen false a whole k from to s own others latest own' (Ok s') m = m
+moves_seen false a whole k from to s own others latest own' (Err c) m = m
 
 both_seen : (b : Bool) (a : ℕ) (r q : Acted) → BothSetAs r a q → BothSetAs (seen_as b r) a (seen_as b q)
-both_seen true a (Done s) (Done s') m = record { own = m.others; others = m.own; reads = m.reads; writes = m.writes; moved = m.moved; known = ap turned m.known }
-both_seen false a (Done s) (Done s') m = m
-both_seen b a (Done s) (Unmet c) m = absurd m
-both_seen b a (Unmet c) (Done s) m = absurd m
-both_seen b a (Unmet c) (Unmet c') m = m
+both_seen true a (Ok s) (Ok s') m = record { own = m.others; others = m.own; reads = m.reads; writes = m.writes; moved = m.moved; known = ap turned m.known }
+both_seen false a (Ok s) (Ok s') m = m
+both_seen b a (Ok s) (Err c) m = absurd m
+both_seen b a (Err c) (Ok s) m = absurd m
+both_seen b a (Err c) (Err c') m = m
 
 -- the same state seen from the other side
 seen_from : (layout : Layout) (t u : Side) (s : Stored) (own others latest : List ℕ) (σ : State) (l : List Event) → other t ≡ u → other u ≡ t →
@@ -85,10 +82,10 @@ seen_from layout t u s own others latest σ l e f h = record {
 module _ (layout : Layout) (y : Action) (σ : State) (l : List Event) (hs cs latest : List ℕ) where
   acts_on : (b : Bool) (r : Acted) (hs' cs' latest' : List ℕ) → of_side b cs' hs' ≡ of_side b cs hs →
       FollowsAs layout y (side_on b) σ l (of_side b hs cs) (of_side b cs hs) latest (seen_as b r) (of_side b hs' cs') latest' → ActsAs layout y σ l hs cs latest r hs' cs' latest'
-  acts_on true (Done s) hs' cs' latest' q (e, h) = (e, rw q (seen_from layout card host (swapped s) cs' hs latest' _ _ refl refl h))
-  acts_on true (Unmet c) hs' cs' latest' q (e, f, g) = (e, q, f, g)
-  acts_on false (Done s) hs' cs' latest' q (e, h) = (e, rw q h)
-  acts_on false (Unmet c) hs' cs' latest' q (e, f, g) = (e, f, q, g)
+  acts_on true (Ok s) hs' cs' latest' q (e, h) = (e, rw q (seen_from layout card host (swapped s) cs' hs latest' _ _ refl refl h))
+  acts_on true (Err c) hs' cs' latest' q (e, f, g) = (e, q, f, g)
+  acts_on false (Ok s) hs' cs' latest' q (e, h) = (e, rw q h)
+  acts_on false (Err c) hs' cs' latest' q (e, f, g) = (e, f, q, g)
 
 module _ {layout : Layout} {s : Stored} {hs cs latest : List ℕ} {σ : State} {l : List Event} (h : Holds layout host s hs cs latest σ l) where
   holds_on : (b : Bool) → Holds layout (side_on b) (seen b s) (of_side b hs cs) (of_side b cs hs) latest σ l
@@ -102,19 +99,19 @@ module _ {layout : Layout} {s : Stored} {hs cs latest : List ℕ} {σ : State} {
 
   module _ (low : Low s) where
     pub read_done_on : (b : Bool) (x : Action) {k from to : ℕ} → CellsAt layout (with_verb read (side_on b) x) k from to → {r : ℕ} → FirstStale (of_side b hs cs) latest k from to r → to ≤ r →
-        ActsAs layout (with_verb read (side_on b) x) σ l hs cs latest (Done (record { flags = s.flags; other_flags = s.other_flags; reads = s.reads + 1; writes = s.writes; moved = s.moved; known = s.known })) hs cs latest
-    read_done_on true x z f m = acts_on layout (with_verb read card x) σ l hs cs latest true (Done (record { flags = s.flags; other_flags = s.other_flags; reads = s.reads + 1; writes = s.writes; moved = s.moved; known = s.known })) hs cs latest refl (read_done (holds_on true) x z (low_seen true low) f m)
-    read_done_on false x z f m = acts_on layout (with_verb read host x) σ l hs cs latest false (Done (record { flags = s.flags; other_flags = s.other_flags; reads = s.reads + 1; writes = s.writes; moved = s.moved; known = s.known })) hs cs latest refl (read_done h x z low f m)
+        ActsAs layout (with_verb read (side_on b) x) σ l hs cs latest (Ok (record s { tally = record s.tally { reads = s.tally.reads + 1 } })) hs cs latest
+    read_done_on true x z f m = acts_on layout (with_verb read card x) σ l hs cs latest true (Ok (record s { tally = record s.tally { reads = s.tally.reads + 1 } })) hs cs latest refl (read_done (holds_on true) x z (low_seen true low) f m)
+    read_done_on false x z f m = acts_on layout (with_verb read host x) σ l hs cs latest false (Ok (record s { tally = record s.tally { reads = s.tally.reads + 1 } })) hs cs latest refl (read_done h x z low f m)
 
     pub read_unmet_on : (b : Bool) (x : Action) {k from to : ℕ} → CellsAt layout (with_verb read (side_on b) x) k from to → {r : ℕ} → FirstStale (of_side b hs cs) latest k from to r → r < to →
         lowest_unmet layout (with_verb read (side_on b) x) σ ≡ some r
     read_unmet_on b x z f m = read_unmet (holds_on b) x z (low_seen b low) f m
 
     pub write_done_on : (b : Bool) (x : Action) {a : ℕ} {whole : Bool} {k from to : ℕ} → CellsOf layout (with_verb write (side_on b) x) a whole k from to →
-        (n : Known) → Wrote b whole a s.known n → {hs' cs' latest' : List ℕ} → ChangedOn b k from to (λ c. s.writes + 1) hs cs hs' cs' → Changed k from to (λ c. s.writes + 1) latest latest' →
-        ActsAs layout (with_verb write (side_on b) x) σ l hs cs latest (Done (record { flags = s.flags; other_flags = s.other_flags; reads = s.reads; writes = s.writes + 1; moved = s.moved; known = n })) hs' cs' latest'
-    write_done_on true x z n w {hs'} {cs'} {latest'} c d = acts_on layout (with_verb write card x) σ l hs cs latest true (Done (record { flags = s.flags; other_flags = s.other_flags; reads = s.reads; writes = s.writes + 1; moved = s.moved; known = n })) hs' cs' latest' c.others (write_done (holds_on true) x z (turned n) (record { own = w.own; others = w.others }) c.own d)
-    write_done_on false x z n w {hs'} {cs'} {latest'} c d = acts_on layout (with_verb write host x) σ l hs cs latest false (Done (record { flags = s.flags; other_flags = s.other_flags; reads = s.reads; writes = s.writes + 1; moved = s.moved; known = n })) hs' cs' latest' c.others (write_done h x z n w c.own d)
+        (n : Known) → Wrote b whole a s.known n → {hs' cs' latest' : List ℕ} → ChangedOn b k from to (λ c. s.tally.writes + 1) hs cs hs' cs' → Changed k from to (λ c. s.tally.writes + 1) latest latest' →
+        ActsAs layout (with_verb write (side_on b) x) σ l hs cs latest (Ok (record s { tally = record s.tally { writes = s.tally.writes + 1 }; known = n })) hs' cs' latest'
+    write_done_on true x z n w {hs'} {cs'} {latest'} c d = acts_on layout (with_verb write card x) σ l hs cs latest true (Ok (record s { tally = record s.tally { writes = s.tally.writes + 1 }; known = n })) hs' cs' latest' c.others (write_done (holds_on true) x z (turned n) (record { own = w.own; others = w.others }) c.own d)
+    write_done_on false x z n w {hs'} {cs'} {latest'} c d = acts_on layout (with_verb write host x) σ l hs cs latest false (Ok (record s { tally = record s.tally { writes = s.tally.writes + 1 }; known = n })) hs' cs' latest' c.others (write_done h x z n w c.own d)
 
     pub copy_acts : (b : Bool) (x : Action) {a : ℕ} {whole : Bool} {k from to : ℕ} → CellsOf layout (with_verb copy (side_on b) x) a whole k from to →
         {hs' cs' : List ℕ} (r : Acted) → MovesOn b a whole k from to s hs cs latest r hs' cs' → ActsAs layout (with_verb copy (side_on b) x) σ l hs cs latest r hs' cs' latest
@@ -122,8 +119,8 @@ module _ {layout : Layout} {s : Stored} {hs cs latest : List ℕ} {σ : State} {
         (copy_follows (holds_on b) x z (low_seen b low) (seen_as b r) (of_side b hs' cs') (moves_seen b a whole k from to s (of_side b hs cs) (of_side b cs hs) latest (of_side b hs' cs') r m.moves))
 
     module _ (b : Bool) (x : Action) {a : ℕ} {whole : Bool} {k from to : ℕ} (z : CellsOf layout (with_verb need (side_on b) x) a whole k from to) where
-      pub need_idle_on : (σ.flags a).flag (side_on b) ≡ true → ActsAs layout (with_verb need (side_on b) x) σ l hs cs latest (Done s) hs cs latest
-      need_idle_on e = acts_on layout (with_verb need (side_on b) x) σ l hs cs latest b (Done s) hs cs latest refl (need_idle (holds_on b) x z e)
+      pub need_idle_on : (σ.flags a).flag (side_on b) ≡ true → ActsAs layout (with_verb need (side_on b) x) σ l hs cs latest (Ok s) hs cs latest
+      need_idle_on e = acts_on layout (with_verb need (side_on b) x) σ l hs cs latest b (Ok s) hs cs latest refl (need_idle (holds_on b) x z e)
 
       pub need_acts : {hs' cs' : List ℕ} (r q : Acted) → (σ.flags a).flag (side_on b) ≡ false → MovesOn b a whole k from to s hs cs latest r hs' cs' → BothSetAs r a q →
           ActsAs layout (with_verb need (side_on b) x) σ l hs cs latest q hs' cs' latest
@@ -132,35 +129,16 @@ module _ {layout : Layout} {s : Stored} {hs cs latest : List ℕ} {σ : State} {
 
   -- a mark
   pub mark_card : (b : Bool) (x : Action) (s' : Stored) → b ≡ true →
-      s'.flags ≡ mask (length layout.lengths) (λ d. cond (eqb d x.name) false ((σ.flags d).flag host)) → s'.other_flags ≡ mask (length layout.lengths) (λ d. cond (eqb d x.name) true ((σ.flags d).flag card)) →
-      s'.reads ≡ s.reads → s'.writes ≡ s.writes → s'.moved ≡ s.moved → s'.known ≡ s.known → ActsAs layout (with_verb mark (side_on b) x) σ l hs cs latest (Done s') hs cs latest
-  mark_card true x s' e f g i j m n = acts_on layout (with_verb mark card x) σ l hs cs latest true (Done s') hs cs latest refl (mark_done (holds_on true) x (swapped s') g f i j m (ap turned n))
+      s'.host_flags ≡ mask (length layout.lengths) (λ d. cond (eqb d x.name) false ((σ.flags d).flag host)) → s'.card_flags ≡ mask (length layout.lengths) (λ d. cond (eqb d x.name) true ((σ.flags d).flag card)) →
+      s'.tally.reads ≡ s.tally.reads → s'.tally.writes ≡ s.tally.writes → s'.tally.moved ≡ s.tally.moved → s'.known ≡ s.known → ActsAs layout (with_verb mark (side_on b) x) σ l hs cs latest (Ok s') hs cs latest
+  mark_card true x s' e f g i j m n = acts_on layout (with_verb mark card x) σ l hs cs latest true (Ok s') hs cs latest refl (mark_done (holds_on true) x (swapped s') g f i j m (ap turned n))
   mark_card false x s' e f g i j m n = absurd (true≢false (rw e refl))
 
   pub mark_host : (b : Bool) (x : Action) (s' : Stored) → b ≡ false →
-      s'.flags ≡ mask (length layout.lengths) (λ d. cond (eqb d x.name) true ((σ.flags d).flag host)) → s'.other_flags ≡ mask (length layout.lengths) (λ d. cond (eqb d x.name) false ((σ.flags d).flag card)) →
-      s'.reads ≡ s.reads → s'.writes ≡ s.writes → s'.moved ≡ s.moved → s'.known ≡ s.known → ActsAs layout (with_verb mark (side_on b) x) σ l hs cs latest (Done s') hs cs latest
-  mark_host false x s' e f g i j m n = acts_on layout (with_verb mark host x) σ l hs cs latest false (Done s') hs cs latest refl (mark_done h x s' f g i j m n)
+      s'.host_flags ≡ mask (length layout.lengths) (λ d. cond (eqb d x.name) true ((σ.flags d).flag host)) → s'.card_flags ≡ mask (length layout.lengths) (λ d. cond (eqb d x.name) false ((σ.flags d).flag card)) →
+      s'.tally.reads ≡ s.tally.reads → s'.tally.writes ≡ s.tally.writes → s'.tally.moved ≡ s.tally.moved → s'.known ≡ s.known → ActsAs layout (with_verb mark (side_on b) x) σ l hs cs latest (Ok s') hs cs latest
+  mark_host false x s' e f g i j m n = acts_on layout (with_verb mark host x) σ l hs cs latest false (Ok s') hs cs latest refl (mark_done h x s' f g i j m n)
   mark_host true x s' e f g i j m n = absurd (true≢false e)
-
--- a copy to a side, unmet or done
-pub move_unmet : (b : Bool) (a : ℕ) (whole : Bool) (k from to : ℕ) (s : Stored) (hs cs latest : List ℕ) {r : ℕ} → FirstStale (of_side (not b) hs cs) latest k from to r → r < to → MovesOn b a whole k from to s hs cs latest (Unmet (record { 0 = r })) hs cs
-move_unmet true a whole k from to s hs cs latest f m = record { moves = (f, m, refl); others = refl }
-move_unmet false a whole k from to s hs cs latest f m = record { moves = (f, m, refl); others = refl }
-
-pub move_done : (b : Bool) (a : ℕ) (whole : Bool) (k from to : ℕ) (s : Stored) (n : Known) (many : ℕ) (hs cs latest hs' cs' : List ℕ) {r : ℕ} → many ≡ cells_between k from to → Copied whole a s.known n → FirstStale (of_side (not b) hs cs) latest k from to r → to ≤ r → ChangedOn b k from to (λ c. get_or (of_side b cs hs) c 0) hs cs hs' cs' →
-    MovesOn b a whole k from to s hs cs latest (Done (record { flags = s.flags; other_flags = s.other_flags; reads = s.reads; writes = s.writes; moved = s.moved + many; known = n })) hs' cs'
-move_done true a whole k from to s n many hs cs latest hs' cs' e w f m c = record { moves = (none_stale f m, c.own, rw e, w); others = c.others }
-move_done false a whole k from to s n many hs cs latest hs' cs' e w f m c = record { moves = (none_stale f m, c.own, rw e, w); others = c.others }
-
--- a copy, done or unmet, leaves the cells past its own on both sides
-moves_own : (a : ℕ) (whole : Bool) (k from to : ℕ) (s : Stored) (own others latest : List ℕ) (r : Acted) (own' : List ℕ) → MovesCells a whole k from to s own others latest r own' → Same to own own'
-moves_own a whole k from to s own others latest (Done s') own' m = changed_same m.1
-moves_own a whole k from to s own others latest (Unmet c) own' m = rw m.2 (same_all to own)
-
-pub moves_same : (b : Bool) (a : ℕ) (whole : Bool) (k from to : ℕ) (s : Stored) (hs cs latest : List ℕ) (r : Acted) (hs' cs' : List ℕ) → MovesOn b a whole k from to s hs cs latest r hs' cs' → Same to hs hs' × Same to cs cs'
-moves_same true a whole k from to s hs cs latest r hs' cs' m = (rw m.others (same_all to hs), moves_own a whole k from to s cs hs latest r cs' m.moves)
-moves_same false a whole k from to s hs cs latest r hs' cs' m = (moves_own a whole k from to s hs cs latest r hs' m.moves, rw m.others (same_all to cs))
 
 -- a record's side
 side_same : (n : ℕ) (b : Bool) → eqb n 0 ≡ b → side_on (not b) ≡ side_of n

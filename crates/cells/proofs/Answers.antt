@@ -2,15 +2,13 @@
 use Prim.Native.Nat.{ℕ, zero, suc, ◌+◌, ◌-◌, ◌≤◌, ◌<◌}
 use mathlib.Core.Path.{◌≡◌, refl, sym, subst}
 use mathlib.Core.Logic.{inl, inr}
-use mathlib.Core.Bool.{Bool, true, false, cond, true≢false}
-use mathlib.Core.Option.{none, some}
+use mathlib.Core.Option as maybe
 use mathlib.Core.List.{List}
 use native.Mathlib.Numerals.{add-one}
 use native.Mathlib.Omega.{arith}
 use lib.Dec.{eqb}
 use lib.ListN.{get_or}
-use borrow.Author.Tests.{eqb-false, ne_eqb}
-use Rattle.model.specs.declared.Verdict.{Verdict}
+use Rattle.model.specs.Verdicts.{Verdict}
 use Rattle.model.specs.Sides.{span_of, is_scratch}
 use Rattle.model.proofs.Status.{Status, at_start}
 use Rattle.model.proofs.Through.{Stops, StopsAt}
@@ -20,8 +18,11 @@ use Rattle.format.specs.Plans.{plan_of}
 use Rattle.format.specs.Inner.Walks.{Plain, Starts, block_between}
 use Rattle.reading.proofs.Tables.{first_more, first_rises, all_cells}
 use Rattle.format.proofs.Walking.{opened_facts}
+use Rattle.std.specs.Prelude.{Option, None, Some}
+use Rattle.model.specs.declared.Record.{Record}
+use Rattle.summary.specs.declared.Row.{Row}
 use Rattle.statuses.specs.declared.acts.Found.{Found}
-use Rattle.statuses.specs.Inner.Sets.{statuses, index, bit, In, record_of}
+use Rattle.statuses.specs.Inner.Sets.{statuses, index, bit, In, record_of, number_of}
 use Rattle.statuses.specs.Inner.Ran.{Below, Ran}
 use Rattle.lookahead.specs.Inner.Ahead.{cell_at}
 use Rattle.summary.specs.Inner.Ways.{cell_of, Passed}
@@ -31,21 +32,22 @@ use Rattle.cells.specs.Inner.Spans.{Span}
 use Rattle.cells.proofs.Alike.{first_status, stop_alike}
 
 -- what is found from one status is the lowest stop from it
-least_found : {G : Status → Status → Type 0} {S : Status → ℕ → Type 0} (w : Status) (set : ℕ) → Begins w set → (t : Found) → Ran G S (In set) 65535 t → Least (record_of t.low) (S w)
-least_found {S = S} w set b t m = record { named = λ n e. go (eqb t.low 65535) refl n e; least = λ r s. below r (m.least w r ((start_in w set b w).1 refl) s) }
+least_found : {G : Status → Status → Type 0} {S : Status → ℕ → Type 0} (w : Status) (set : ℕ) → Begins w set → (t : Found) → Ran G S (In set) None t → Least (record_of t.low) (S w)
+least_found {S = S} w set b t m = record { named = λ n e. go t.low refl n e; least = λ r s. below t.low r (m.least w r ((start_in w set b w).1 refl) s) }
   where
-    go : (b : Bool) → eqb t.low 65535 ≡ b → (n : ℕ) → cond b none (some t.low) ≡ some n → S w n
-    go true q n e = absurd (true≢false (cc))
-    go false q n e = let z : t.low ≡ n = cc in elim m.named [
-      | inl d ↦ absurd (eqb-false t.low 65535 q d)
-      | inr p ↦ rw (← z) (subst (λ u. S u t.low) ((start_in w set b p.0).0 p.1) p.2)
+    go : (o : Option Record) → t.low ≡ o → (n : ℕ) → record_of o ≡ maybe.some n → S w n
+    go None q n e = absurd (cc)
+    go (Some k) q n e = let z : number_of t.low ≡ n = rw q (cc) in elim m.named [
+      | inl d ↦ absurd (cc)
+      | inr p ↦ rw (← z) (subst (λ u. S u (number_of t.low)) ((start_in w set b p.0).0 p.1) p.2)
     ]
 
-    below : (r : ℕ) → Below t.low r → AtMost (record_of t.low) r
-    below r h = rw (ne_eqb t.low 65535 (λ e. omega arith)) h.0
+    below : (o : Option Record) (r : ℕ) → Below (number_of o) r → AtMost (record_of o) r
+    below None r h = absurd (omega (arith, h.1))
+    below (Some k) r h = h.0
 
-pub stop_is : (f : List ℕ) (array offset c class : ℕ) (rows : List ℕ) (set : ℕ) (t : Found) → offset < (span_of (layout_of f) array).length → c ≡ cell_at f array offset →
-    (start : ℕ) → start ≡ index (at_start (is_scratch (layout_of f) array)) → ((i : ℕ) → i < statuses → bit set i ≡ eqb i start) → class ≡ c + 1 → Passed f (cell_of class) class (block_between f 0 (record_count f)) (In set) 65535 rows t →
+pub stop_is : (f : List ℕ) (array offset c class : ℕ) (rows : List Row) (set : ℕ) (t : Found) → offset < (span_of (layout_of f) array).length → c ≡ cell_at f array offset →
+    (start : ℕ) → start ≡ index (at_start (is_scratch (layout_of f) array)) → ((i : ℕ) → i < statuses → bit set i ≡ eqb i start) → class ≡ c + 1 → Passed f (cell_of class) class (block_between f 0 (record_count f)) (In set) None rows t →
     Least (record_of t.low) (λ r. StopsAt (plan_of f) r c)
 unfolding plan_of block_between
 stop_is f array offset c class rows set t inside is start first only e p =
@@ -72,7 +74,7 @@ module _ (f : List ℕ) (bodies : ℕ) (w : Plain f bodies) (array first next : 
       record { size = omega (arith, s.begins, s.ends); limit = omega (arith, s.ends, all_cells f, (opened_facts f w.opens).bounds.cells_below) }
 
   -- a cell with its own stop
-  pub looked : (c : ℕ) (v : Verdict) → Fits c (StopsAt (plan_of f)) v → (u : Verdict) (k : ℕ) → Least (record_of k) (λ r. StopsAt (plan_of f) r c) → u ≡ with_cell v c (record_of k) → Fits (c + 1) (StopsAt (plan_of f)) u
+  pub looked : (c : ℕ) (v : Verdict) → Fits c (StopsAt (plan_of f)) v → (u : Verdict) (k : Option Record) → Least (record_of k) (λ r. StopsAt (plan_of f) r c) → u ≡ with_cell v c (record_of k) → Fits (c + 1) (StopsAt (plan_of f)) u
   looked c v fits u k l e = rw (e, add-one) (fits_cell c (StopsAt (plan_of f)) v (record_of k) fits l)
 
   -- those without a mark, each with that of the cell before it

@@ -1,17 +1,18 @@
 -- A front joined to a back: sum by sum, for any cut, and in either order.
 use mathlib.Core.Path.{◌≡◌, refl, sym, ◌∙◌, ap}
 use mathlib.Core.List.{List, [], ◌++◌}
-use Prim.Native.Nat.{ℕ, ◌<◌, ◌+◌, ◌*◌, ◌/◌, ◌%◌}
+use Prim.Native.Nat.{ℕ, ◌<◌, ◌≤◌, ◌+◌, ◌*◌, ◌/◌, ◌%◌, min}
 use native.Mathlib.Nat.{add-zero, add-mul, mul-zero, mul-add, mul_left_comm, div-add-mod}
 use native.Mathlib.Omega.{arith}
-use lib.ListN.{length, length-append}
+use lib.ListN.{length, drop, length-append}
+use lib.Seq.{drop-length}
 use Rattle.sums.specs.Sums.{plain_sum, weighted_sum, check_bytes}
 use Rattle.sums.specs.Inner.Stretches.{TotalsOf}
 use Rattle.check_bytes.specs.Checks.{sums_of, onto, bytes_of}
 use Rattle.check_bytes.specs.Claims.{BothOrders, ThreeParts}
 use Rattle.check_bytes.specs.declared.Sums.{Sums}
 use Rattle.sums.specs.declared.stretches.Totals.{Totals}
-use Rattle.sums.proofs.Parts.{plain_append, weighted_append}
+use Rattle.sums.proofs.Parts.{all_left, behind_more, whole_more, behind_all, plain_append, weighted_append}
 
 -- r has the sums of x joined to those of a back, sum by sum
 pub record Joined (x : List ℕ) (back r : Sums) : Type 0 where
@@ -52,6 +53,32 @@ joined_more x y back r q j k =
       plain = omega (arith, plain_append x y, j.plain, k.plain);
       weighted = omega (arith, weighted_append x y, times (length x) (plain_sum y + back.plain), mul-add (length x) (plain_sum y) back.plain, add-mul (length x) (length y) back.plain, j.weighted, k.weighted);
     }
+
+-- the stretches that are left, and the sums of those behind them, joined to the first: whole rows
+pub record StretchesTaken (x left : List ℕ) (back r : Sums) : Type 0 where
+  pub whole : left ++ drop (length left) x ≡ x
+  pub rows_left : length left % 32 ≡ 0
+  pub joined : Joined (drop (length left) x) back r
+
+pub no_stretch : (x : List ℕ) (back : Sums) → length x % 32 ≡ 0 → back.plain < 251 → back.weighted < 251 → StretchesTaken x x back back
+no_stretch x back rows p w = record { whole = all_left x; rows_left = rows; joined = rw (drop-length x) (joined_none back p w) }
+
+-- one stretch more taken, which is the last of those that are left
+module _ (x left t part : List ℕ) (back r : Sums) (v : StretchesTaken x left back r) (last : left ≡ t ++ part) (size : length part ≡ min 45056 (length left)) where
+  pub stretch_rows : (length part % 32 ≡ 0) × (length part ≤ 45056)
+  stretch_rows = (omega (arith, v.rows_left), omega arith)
+
+  pub stretch_taken : (q : Sums) → Joined part r q → StretchesTaken x t back q
+  stretch_taken q k =
+      record {
+        whole = whole_more x left t part v.whole last;
+        rows_left = omega (arith, ap length last, length-append t part, v.rows_left);
+        joined = rw (behind_more x left t part v.whole last) (joined_more part (drop (length left) x) back r q v.joined k);
+      }
+
+-- all taken
+pub all_stretches : (x left : List ℕ) (back r : Sums) → length left ≡ 0 → StretchesTaken x left back r → Joined x back r
+all_stretches x left back r e v = rw (behind_all x left e) at v.joined
 
 pub three_parts : ThreeParts
 three_parts front middle back = joined_is (front ++ middle) back _ (joined_more front middle back _ _ (joins middle back) (joins front (onto middle back)))

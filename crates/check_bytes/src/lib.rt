@@ -5,12 +5,12 @@ ghost use Rattle.std.specs.Prelude.{◌≡◌, ◌+◌, ◌*◌, ◌^◌, ◌%�
 ghost use Rattle.sums.specs.Sums.{plain_sum, weighted_sum};
 ghost use Rattle.check_bytes.specs.Checks.{onto};
 
-use sums::stretches::{STRETCH, Totals, earlier, rest, rows_end, stretch};
+use sums::stretches::{STRETCH, Totals, rest, rows_end, stretch};
 
 pub mod packing;
 
 // The two check sums.
-#[derive(Clone, Copy)]
+#[derive(Clone, Copy, Default)]
 pub struct Sums {
     pub plain: u8,
     pub weighted: u8,
@@ -22,10 +22,10 @@ fn in_front(front: Totals, n: usize, back: Sums) -> Sums
     ensures plain { result.plain ≡ (front.plain + back.plain) % 251 }
     ensures weighted { result.weighted ≡ (front.weighted + n * back.plain + back.weighted) % 251 }
 {
-    let plain = back.plain as u64;
+    let plain = u64::from(back.plain);
     Sums {
         plain: ((front.plain + plain) % 251) as u8,
-        weighted: ((front.weighted + (n as u64) * plain + (back.weighted as u64)) % 251) as u8,
+        weighted: ((front.weighted + (n as u64) * plain + u64::from(back.weighted)) % 251) as u8,
     }
 }
 
@@ -33,12 +33,10 @@ fn in_front(front: Totals, n: usize, back: Sums) -> Sums
 pub fn joined_sums(front: &[u8], back: Sums) -> Sums
     ensures { result ≡ onto front.now back }
 {
-    let mut end = rows_end(front.len());
-    let mut sums = in_front(rest(&front[end..]), front.len() - end, back);
-    while 0 < end {
-        let at = earlier(end, STRETCH);
-        sums = in_front(stretch(&front[at..end]), end - at, sums);
-        end = at;
+    let (rows, few) = front.split_at(rows_end(front.len()));
+    let mut sums = in_front(rest(few), few.len(), back);
+    for x in rows.rchunks(STRETCH) {
+        sums = in_front(stretch(x), x.len(), sums);
     }
     sums
 }
@@ -48,11 +46,5 @@ pub fn check_sums(s: &[u8]) -> Sums
     ensures plain { result.plain ≡ plain_sum s.now % 251 }
     ensures weighted { result.weighted ≡ weighted_sum 1 s.now % 251 }
 {
-    joined_sums(
-        s,
-        Sums {
-            plain: 0,
-            weighted: 0,
-        },
-    )
+    joined_sums(s, Sums::default())
 }

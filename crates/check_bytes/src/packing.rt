@@ -8,7 +8,7 @@ use crate::{Sums, check_sums, joined_sums};
 fn pack(sums: Sums) -> u64
     ensures { result ≡ packed sums }
 {
-    (sums.plain as u64) + 65536 * (sums.weighted as u64)
+    u64::from(sums.plain) + 65536 * u64::from(sums.weighted)
 }
 
 // The sums that a number of any value stands for.

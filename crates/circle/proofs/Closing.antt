@@ -3,15 +3,15 @@
 use Prim.Native.Nat.{ℕ, ◌≤◌, ◌<◌}
 use mathlib.Core.Path.{◌≡◌, refl, ap, sym, ◌∙◌, subst}
 use mathlib.Core.Logic.{◌⊎◌, inl, inr}
-use mathlib.Core.Bool.{Bool, true, false, cond, ◌||◌, true≢false}
+use mathlib.Core.Bool.{Bool, true, false, ◌||◌, true≢false}
 use mathlib.Core.List.{List, [], ◌∷◌}
 use native.Mathlib.Omega.{arith}
 use lib.Dec.{ltb}
 use lib.ListN.{length, get_or, drop, get_or-append}
 use borrow.Author.Tests.{le-ltb}
-use Rattle.model.specs.declared.Verdict.{Verdict}
-use Rattle.model.specs.declared.Verdict.TheVariants.{Accepted, Refused}
-use Rattle.model.specs.Verdicts.{accepted, stopped_at}
+use Rattle.std.specs.Prelude.{Result}
+use Rattle.model.specs.declared.Fault.{Fault}
+use Rattle.model.specs.Verdicts.{Verdict, Accepted, Refused, stopped_at}
 use Rattle.model.specs.Sides.{Side, host, card, at, Layout, cell_count}
 use Rattle.model.specs.Blocks.{size, largest, Plan}
 use Rattle.model.specs.Runs.{Config, Ending, finished, stopped, out_of_choices, Ends, tally}
@@ -33,7 +33,7 @@ use Rattle.circle.proofs.Opens.{expansion_opens}
 use Rattle.circle.proofs.Runs.{file_demand3}
 use Rattle.expand.proofs.Laws.Answers.{written}
 use Rattle.model.specs.declared.End.{End}
-use Rattle.run.specs.Running.{Lent, Roomy, run_rows, memory, holding, no_end, end_of, Ran, Runs}
+use Rattle.run.specs.Running.{Lent, Roomy, run_rows, memory, holding, end_of, verdict_of, Ran, RunsWhere, Runs}
 use Rattle.standing.specs.Choices.{choices_of}
 use Rattle.circle.specs.Claims.{ClaimRuns}
 use Rattle.circle.specs.Closing.{Adds, DoneOrSpent, Kept, ExpansionRun}
@@ -43,7 +43,7 @@ held_at : (n : ℕ) (held : ℕ → ℕ) (old : List ℕ) (c : ℕ) → c < n �
 unfolding memory
 held_at n held old c l = get_or-append (table held n) (drop n old) 0 c (rw (length_table held n) l) ∙ getD_table held n c 0 l
 
-module _ (f : List ℕ) (judges : judged f ≡ Accepted) (small : size (expansion_of f).body ≤ 1024) (low : largest (expansion_of f).body ≤ 4096) (choices : List ℕ) (before after : Lent) (answer : End) where
+module _ (f : List ℕ) (judges : judged f ≡ Accepted) (small : size (expansion_of f).body ≤ 1024) (low : largest (expansion_of f).body ≤ 4096) (choices : List ℕ) (before after : Lent) (answer : Result End Fault) where
   same_plan : plan_of (expansion_file f) ≡ expansion_of f
   same_plan = (expansion_opens f judges small low).2
 
@@ -88,16 +88,16 @@ module _ (f : List ℕ) (judges : judged f ≡ Accepted) (small : size (expansio
           side_current = λ c l written. let w = d.always_current k h.run c l (λ z e. written z (latest_held c l ∙ e)) in one_current w.0 c l w.1;
         }
 
-  neither : {n p : ℕ} → answer.verdict ≡ Refused n p → (n ≡ 22 → ⊥) → DoneOrSpent answer.verdict → ⊥
+  neither : {n p : ℕ} → verdict_of answer ≡ Refused n p → (n ≡ 22 → ⊥) → DoneOrSpent (verdict_of answer) → ⊥
   neither h other (inl e) = let z : ◌≡◌ {A = ℕ} 0 1 = cc in omega arith
   neither h other (inr (r, e)) = other (cc)
 
-  not_stopped : {n c : ℕ} → answer.verdict ≡ stopped_at n c → DoneOrSpent answer.verdict → ⊥
+  not_stopped : {n c : ℕ} → verdict_of answer ≡ stopped_at n c → DoneOrSpent (verdict_of answer) → ⊥
   not_stopped h (inl e) = let z : ◌≡◌ {A = ℕ} 0 1 = cc in omega arith
   not_stopped h (inr (r, e)) = let z : ◌≡◌ {A = ℕ} 0 1 = cc in omega arith
 
   -- a refusal before the run is 19 or 20
-  refused : (n p : ℕ) → answer.verdict ≡ Refused n p → (n ≡ 22 → ⊥) → (Roomy (cell_count (layout_of f)) before → length choices ≤ 65536 → ⊥) → ExpansionRun f choices before after answer
+  refused : (n p : ℕ) → verdict_of answer ≡ Refused n p → (n ≡ 22 → ⊥) → (Roomy (cell_count (layout_of f)) before → length choices ≤ 65536 → ⊥) → ExpansionRun f choices before after answer
   refused n p h other short = record {
     unstopped = λ free r c u. let z : ◌≡◌ {A = ℕ} 0 1 = cc in omega arith;
     ended = λ free r l. absurd (short r l);
@@ -109,10 +109,10 @@ module _ (f : List ℕ) (judges : judged f ≡ Accepted) (small : size (expansio
   unfolding plan_of declared_plan_of
   ran r =
       go r.ending (subst (λ (p : Plan). Ends p (choices_of choices) r.config r.ending) same_plan r.ends)
-      (subst (λ (a : Layout). after ≡ holding a r.config before) same_layout r.holds) (ap (λ (x : End). x.verdict) r.answers)
+      (subst (λ (a : Layout). after ≡ holding a r.config before) same_layout r.holds) (ap verdict_of r.answers)
     where
       go : (x : Ending) → Ends (expansion_of f) (choices_of choices) r.config x → after ≡ holding (layout_of f) r.config before →
-          answer.verdict ≡ (end_of (layout_of (expansion_file f)) (choices_of choices) r.config x).verdict → ExpansionRun f choices before after answer
+          verdict_of answer ≡ verdict_of (end_of (layout_of (expansion_file f)) (choices_of choices) r.config x) → ExpansionRun f choices before after answer
       go finished h m u = record {
         unstopped = λ free n c v. let z : ◌≡◌ {A = ℕ} 0 1 = cc in omega arith;
         ended = λ free w l. inl u;
@@ -150,15 +150,15 @@ module _ (f : List ℕ) (judges : judged f ≡ Accepted) (small : size (expansio
 
   -- what the run promises, by what the rows say
   abbrev promised : Verdict → Type 0
-  promised v = cond (accepted v) (Ran (expansion_file f) choices before after answer) ((after ≡ before) × (answer ≡ no_end v))
+  promised v = RunsWhere v (expansion_file f) choices before after answer
 
   runs_as : promised (answer_of (run_rows (expansion_file f) choices before)) → ExpansionRun f choices before after answer
   unfolding answer_of
   runs_as r = go short refl (ltb 65536 (length choices)) refl (subst promised rows r)
     where
       go : (s : Bool) → short ≡ s → (t : Bool) → ltb 65536 (length choices) ≡ t → promised (answer_of (row s 19 0 ∷ row t 20 0 ∷ [])) → ExpansionRun f choices before after answer
-      go true e t d r = refused 19 0 (ap (λ (x : End). x.verdict) r.1) (λ z. omega arith) (λ w l. true≢false (sym e ∙ long w))
-      go false e true d r = refused 20 0 (ap (λ (x : End). x.verdict) r.1) (λ z. omega arith) (λ w l. true≢false (sym d ∙ le-ltb _ _ l))
+      go true e t d r = refused 19 0 (ap verdict_of r.1) (λ z. omega arith) (λ w l. true≢false (sym e ∙ long w))
+      go false e true d r = refused 20 0 (ap verdict_of r.1) (λ z. omega arith) (λ w l. true≢false (sym d ∙ le-ltb _ _ l))
       go false e false d r = ran r
 
 -- whatever the choices and the lent memories

@@ -9,7 +9,7 @@ use native.Mathlib.Omega.{arith}
 use lib.Dec.{ltb, leb, eqb}
 use lib.ListN.{length, get_or}
 use borrow.Author.Tests.{ltb-true, ltb-false, le-leb, eq-eqb}
-use Rattle.model.specs.declared.Verdict.TheVariants.{Accepted}
+use Rattle.model.specs.Verdicts.{Accepted}
 use Rattle.model.specs.Sides.{Side, host, card, side_number, Layout, span_of}
 use Rattle.model.specs.Records.{Verb, read, write, copy, need, mark, Action, whole_of}
 use Rattle.model.specs.Blocks.{Block, size, largest}

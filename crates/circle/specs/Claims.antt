@@ -1,6 +1,7 @@
 -- What is proved of what the expander writes: each theorem that a reader relies on, by name, with the place of its proof.
-use Rattle.std.specs.Prelude.{ℕ, ◌≡◌, Bool, true, false, List}
-use Rattle.model.specs.declared.Verdict.TheVariants.{Accepted}
+use Rattle.std.specs.Prelude.{ℕ, ◌≡◌, Bool, true, false, List, Result}
+use Rattle.model.specs.Verdicts.{Accepted}
+use Rattle.model.specs.declared.Fault.{Fault}
 use Rattle.model.specs.declared.End.{End}
 use Rattle.model.specs.Sides.{has_scratch}
 use Rattle.model.specs.Check.{Answers}
@@ -31,5 +32,5 @@ ClaimOpens = (f out : List ℕ) → expand_answer f out ≡ Accepted →
 -- passes the check
 abbrev pub ClaimRuns : Type 0
 ClaimRuns = (f out : List ℕ) → expand_answer f out ≡ Accepted →
-    (choices : List ℕ) (before after : Lent) (answer : End) → Runs (expansion_file f) choices before after answer →
+    (choices : List ℕ) (before after : Lent) (answer : Result End Fault) → Runs (expansion_file f) choices before after answer →
     ExpansionRun f choices before after answer

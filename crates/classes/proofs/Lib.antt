@@ -1,3 +1,2 @@
--- the marks, and the answer with a cell more
+-- the marks
 pub mod Marking
-pub mod More

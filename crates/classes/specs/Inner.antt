@@ -1,3 +1,2 @@
 -- What only internal contracts cite: no promise of an entry point rests on the text of these modules.
 pub mod Marks
-pub mod Named

@@ -1,41 +1,31 @@
 // The arguments that are numbers.
-
 use std::env::{Env, FillError};
 
-// What is answered where a text is no number.
-pub const NO_NUMBER: u64 = u64::MAX;
-
-// A number with one more digit; NO_NUMBER behind another character, behind seven digits and behind NO_NUMBER.
-fn with_digit(n: u64, b: u8) -> u64 {
-    if b < b'0' {
-        return NO_NUMBER;
+// A number with one more digit; None behind another character, and behind a number above a million.
+fn with_digit(n: u64, b: u8) -> Option<u64> {
+    if !b.is_ascii_digit() {
+        return None;
     }
-    if b'9' < b {
-        return NO_NUMBER;
+    if 1_000_000 < n {
+        return None;
     }
-    if 1000000 < n {
-        return NO_NUMBER;
-    }
-    n * 10 + ((b - b'0') as u64)
+    Some(n * 10 + u64::from(b - b'0'))
 }
 
-// The number that a text gives in decimal; NO_NUMBER of an empty text, of one with another character, and of one past ten million.
-fn number_of(s: &[u8]) -> u64 {
-    let mut n: u64 = if s.len() == 0 { NO_NUMBER } else { 0 };
-    let mut i = 0;
-    while i < s.len() {
-        n = with_digit(n, s[i]);
-        i += 1;
+// The number that a text gives in decimal, 10,000,009 at most; None of an empty text, of one with another character, and of a larger number.
+fn number_of(s: &[u8]) -> Option<u64> {
+    if s.is_empty() {
+        return None;
     }
-    n
+    s.iter().try_fold(0, |n, b| with_digit(n, *b))
 }
 
-// The number that argument i is; NO_NUMBER where there is no such argument, and where it has over 4,096 bytes.
-pub fn number_argument(env: &impl Env, i: usize) -> u64 {
+// The number that argument i is; None where there is no such argument, and where it has over 4,096 bytes.
+pub fn number_argument(env: &impl Env, i: usize) -> Option<u64> {
     let mut text = [0u8; 4096];
     match env.arg(i, &mut text) {
         Ok(n) => number_of(&text[..n]),
-        Err(_) => NO_NUMBER,
+        Err(_) => None,
     }
 }
 
@@ -47,10 +37,5 @@ fn is_argument(env: &impl Env, i: usize) -> bool {
 
 // How many arguments there are, the program's name among them.
 pub fn argument_count(env: &impl Env) -> usize {
-    for i in 0..usize::MAX {
-        if !is_argument(env, i) {
-            return i;
-        }
-    }
-    usize::MAX
+    (0..usize::MAX).take_while(|i| is_argument(env, *i)).count()
 }

@@ -9,7 +9,7 @@ use lib.Dec.{ltb, eqb}
 use lib.ListN.{length}
 use borrow.Author.Tests.{ltb-false, eqb-true, not-false}
 use Rattle.model.proofs.Booleans.{or_none, or_out, and_out}
-use Rattle.model.specs.declared.Verdict.TheVariants.{Accepted}
+use Rattle.model.specs.Verdicts.{Accepted}
 use Rattle.model.specs.Sides.{cell_count, span_of}
 use Rattle.model.specs.Rows.{answer_of, all_rows}
 use Rattle.reading.specs.Bytes.{is_declared, is_plain, kind_of, array_count, body_count, length_at, layout_of, records_in, declarations_in, sizes_of, first_record, record_count, bodies_at, between, lengths_of, byte_at, entry_at}

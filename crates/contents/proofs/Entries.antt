@@ -1,36 +1,23 @@
 -- Numbers 4 and 5: what one entry of the contents decides and adds.
-use mathlib.Core.Path.{◌≡◌, refl, ap, sym, ◌∙◌}
+use mathlib.Core.Path.{◌≡◌, ap, sym, ◌∙◌}
 use mathlib.Core.Logic.{⊎_elim}
-use mathlib.Core.Bool.{Bool, true, false, cond, not, ◌&&◌, ◌||◌}
-use mathlib.Core.List.{List, [], ◌∷◌}
+use mathlib.Core.Bool.{Bool, true, false, not, ◌&&◌, ◌||◌}
+use mathlib.Core.List.{List}
 use Prim.Native.Nat.{ℕ, suc, ◌+◌, ◌-◌, ◌≤◌, ◌<◌}
 use native.Mathlib.Decide.{dec_lt}
 use native.Mathlib.Numerals.{add-one}
 use native.Mathlib.Omega.{arith}
 use lib.Dec.{ltb, eqb}
-use borrow.Author.Tests.{lt-ltb, le-ltb, ltb-true, ltb-false, not-true, not-false}
+use borrow.Author.Tests.{lt-ltb, le-ltb, ltb-true, ltb-false}
 use Rattle.model.proofs.Booleans.{or_none, or_out, or_left, or_right}
-use Rattle.model.specs.declared.Verdict.{Verdict}
-use Rattle.model.specs.declared.Verdict.TheVariants.{Accepted, Refused}
+use Rattle.model.specs.Verdicts.{Accepted, Refused}
 use Rattle.model.specs.Sides.{span_of}
-use Rattle.model.specs.Rows.{Row, row, answer_of, all_rows}
+use Rattle.model.specs.Rows.{answer_of}
 use Rattle.reading.specs.Bytes.{array_count, body_count, length_at, layout_of, records_in, declarations_in, first_record, between, byte_at, entry_at}
 use Rattle.contents.specs.Contents.{array_rows, entry_rows}
-use Rattle.model.proofs.Rows.{refused, holds, skips, empty, each_stop}
+use Rattle.model.proofs.Rows.{holds, skips, empty}
 use Rattle.reading.proofs.Ranges.{in_range, out_of_range}
 use Rattle.reading.proofs.Tables.{next_cell, next_record}
-
--- where a walk over n entries, those before a passed, ends
-pub record Walked (rows : ℕ → List Row) (a n : ℕ) (v : Verdict) : Type 0 where
-  pub answer : v ≡ answer_of (all_rows n rows)
-  pub all : v ≡ Accepted → a ≡ n
-
-module _ (rows : ℕ → List Row) (a n : ℕ) (v : Verdict) (before : Accepted ≡ answer_of (all_rows a rows)) where
-  pub walk_ends : a ≤ n → n ≤ a → (n ≤ a → v ≡ Accepted) → Walked rows a n v
-  walk_ends l h p = let q : a ≡ n = omega arith in record { answer = p h ∙ rw q at before; all = λ u. q }
-
-  pub walk_stops : (number : ℕ) → a < n → (a < n → v ≡ Refused number a) → Refused number a ≡ answer_of (rows a) → Walked rows a n v
-  walk_stops number l p e = record { answer = each_stop rows a n v (refused (p l)) before (p l ∙ e) l; all = λ u. absurd (refused (p l) u) }
 
 -- more than the room left of m is more than m in all
 room_left : (k m n : ℕ) → k ≤ m → ltb (m - k) n ≡ ltb m (k + n)
@@ -89,24 +76,13 @@ module _ (f : List ℕ) (b n d last records : ℕ) (x : BodyEntry f b n d last r
   body_row : bad_body ≡ (not (eqb (byte_at f (entry_at f b + 3)) 0) || ltb (records_in f b) (declarations_in f b) || (eqb b 0 && not (eqb (declarations_in f b) 0)) || ltb 1024 (first_record f (suc b)))
   body_row = rw (room_left records 1024 n x.low, next_record f b x.one, ← x.before, ← x.size, ← x.declared, ← x.ends)
 
-  pub body_answer : cond (not bad_body) Accepted (Refused 5 b) ≡ answer_of (entry_rows f b)
+  pub body_stop : bad_body ≡ true → Refused 5 b ≡ answer_of (entry_rows f b)
   unfolding entry_rows
-  body_answer = rw body_row (go _)
-    where
-      go : (t : Bool) → cond (not t) Accepted (Refused 5 b) ≡ answer_of (row t 5 b ∷ [])
-      go true = holds true _ _ _ refl
-      go false = skips false _ _ _ _ refl empty
+  body_stop t = holds _ _ _ _ (sym body_row ∙ t)
 
-  pub body_low : not bad_body ≡ true → records + n ≤ 1024
-  body_low t = ltb-false 1024 (records + n) (sym (room_left records 1024 n x.low) ∙ (or_none (not (eqb last 0) || ltb n d || (eqb b 0 && not (eqb d 0))) _ (not-true _ t)).1)
-
--- by what an entry's tests answered
-module _ (f : List ℕ) (b : ℕ) (fits : Bool) (answer : cond fits Accepted (Refused 5 b) ≡ answer_of (entry_rows f b)) where
-  pub body_stops : not fits ≡ true → Refused 5 b ≡ answer_of (entry_rows f b)
-  body_stops t = rw (not-true fits t) at answer
-
-  pub body_passes : not fits ≡ false → Accepted ≡ answer_of (entry_rows f b)
-  body_passes t = rw (not-false fits t) at answer
+  pub body_pass : bad_body ≡ false → (Accepted ≡ answer_of (entry_rows f b)) × (records + n ≤ 1024)
+  unfolding entry_rows
+  body_pass t = (skips _ _ _ _ _ (sym body_row ∙ t) empty, ltb-false 1024 (records + n) (sym (room_left records 1024 n x.low) ∙ (or_none (not (eqb last 0) || ltb n d || (eqb b 0 && not (eqb d 0))) _ t).1))
 
 pub records_more : (f : List ℕ) (b n records : ℕ) → b < body_count f → n ≡ records_in f b → records ≡ first_record f b → records + n ≡ first_record f (b + 1)
 records_more f b n records one size before = rw (add-one, next_record f b one, ← before, ← size)

@@ -13,7 +13,7 @@ use Rattle.reading.specs.Bytes.{array_count, body_count, layout_of, records_in, 
 use Rattle.reading.specs.Inner.Places.{Inside}
 use Rattle.reading.proofs.Tables.{getD_table, first_rises, next_record}
 use Rattle.contents.specs.declared.Opened.{Opened}
-use Rattle.contents.specs.Inner.Findings.{found}
+use Rattle.contents.specs.Found.{found}
 use Rattle.contents.proofs.Bounds.{Bounds}
 
 -- where body b stands, by what was found

@@ -1,18 +1,16 @@
 -- The places one after the other: what each adds to the answer, and what is found where none of them stops.
-use mathlib.Core.Path.{◌≡◌, refl, ap, ◌∙◌}
+use mathlib.Core.Path.{◌≡◌}
 use mathlib.Core.List.{List}
 use Prim.Native.Nat.{ℕ, ◌≤◌, ◌<◌}
 use lib.ListN.{length}
 use borrow.Author.Tests.{lt-ltb, le-ltb}
-use Rattle.model.specs.declared.Verdict.{Verdict}
-use Rattle.model.specs.declared.Verdict.TheVariants.{Accepted, Stopped, Refused}
+use Rattle.model.specs.Verdicts.{Verdict, Accepted, Refused}
 use Rattle.contents.specs.declared.Opened.{Opened}
 use Rattle.model.specs.Rows.{answer_of, all_rows}
 use Rattle.reading.specs.Bytes.{array_count, body_count, bodies_at}
 use Rattle.frame.specs.Frame.{header_rows, tail_rows}
 use Rattle.contents.specs.Contents.{array_rows, entry_rows, contents_rows, front_rows}
-use Rattle.contents.specs.Found.{found_by}
-use Rattle.contents.specs.Inner.Findings.{found, nothing_found}
+use Rattle.contents.specs.Found.{found}
 use Rattle.model.proofs.Rows.{holds, skips, stop, pass}
 
 -- the answer of header, contents and tail, as far as it is known
@@ -48,17 +46,9 @@ module _ (f : List ℕ) where
         unfolding front_rows
         front_tail b v e = pass (header_rows f) _ v h (pass (contents_rows f) _ v (bodies_are _ b) e)
 
-  -- what is found, by the answer
-  pub nothing : (r : Opened) (v w : Verdict) → (v ≡ Accepted → ⊥) → r ≡ nothing_found v → v ≡ w → r ≡ found_by f w
-  nothing r v w nay e h = e ∙ go v nay ∙ ap (found_by f) h
-    where
-      go : (v : Verdict) → (v ≡ Accepted → ⊥) → nothing_found v ≡ found_by f v
-      go Accepted nay = absurd (nay refl)
-      go (Stopped r c) nay = refl
-      go (Refused n p) nay = refl
-
+  -- what is found, part by part
   pub all : (kind arrays bodies cells records offset : ℕ) (array-starts body-starts declarations : List ℕ)
       → kind ≡ (found f).kind → arrays ≡ (found f).arrays → bodies ≡ (found f).bodies → cells ≡ (found f).cells → records ≡ (found f).records → offset ≡ (found f).offset
       → array-starts ≡ (found f).array_starts → body-starts ≡ (found f).body_starts → declarations ≡ (found f).declarations
-      → ◌≡◌ {A = Opened} (record { verdict = Accepted; kind = kind; arrays = arrays; bodies = bodies; cells = cells; records = records; offset = offset; array_starts = array-starts; body_starts = body-starts; declarations = declarations }) (found f)
+      → ◌≡◌ {A = Opened} (record { kind = kind; arrays = arrays; bodies = bodies; cells = cells; records = records; offset = offset; array_starts = array-starts; body_starts = body-starts; declarations = declarations }) (found f)
   all kind arrays bodies cells records offset array-starts body-starts declarations e₁ e₂ e₃ e₄ e₅ e₆ e₇ e₈ e₉ = rw (e₁, e₂, e₃, e₄, e₅, e₆, e₇, e₈, e₉)

@@ -1,14 +1,13 @@
 -- Numbers 16, 17 (document 01, 'Judging and expanding') and 26 (document 02, request a), and the expansion's file.
-use Rattle.std.specs.Prelude.{ℕ, cond, List, [], ◌∷◌, ◌++◌, length, drop, ltb}
-use Rattle.model.specs.declared.Verdict.{Verdict}
+use Rattle.std.specs.Prelude.{ℕ, cond, List, [], ◌∷◌, ◌++◌, length, drop, ltb, Result}
+use Rattle.model.specs.declared.Fault.{Fault}
+use Rattle.model.specs.Verdicts.{Verdict, accepted, where_accepted}
 use Rattle.model.specs.Blocks.{size}
-use Rattle.model.specs.Verdicts.{accepted}
 use Rattle.model.specs.Rows.{Row, row, answer_of}
 use Rattle.format.specs.Plans.{declared_plan_of}
 use Rattle.files.specs.Expansions.{expansion_of, expansion_file}
 use Rattle.judge.specs.Judged.{judge_rows}
 use Rattle.products.specs.Products.{call_rows}
-use Rattle.model.specs.declared.Length.{Length}
 
 -- "16 expansion over 1,024 records", then the 26 of the calls: "the expander tests the expansion too, after 16, place the call"
 unfoldable pub expansion_rows : List ℕ → List Row
@@ -29,6 +28,6 @@ expanded f out = cond (accepted (expand_answer f out)) (expansion_file f ++ drop
 unfoldable pub length_answer : List ℕ → Verdict
 length_answer f = answer_of (judge_rows f ++ expansion_rows f)
 
--- how long an output the expansion needs, whatever the bytes: "the expansion's file", 0 at a refusal
-unfoldable pub length_of_expansion : List ℕ → Length
-length_of_expansion f = let v = length_answer f in record { verdict = v; bytes = cond (accepted v) (length (expansion_file f)) 0 }
+-- how long an output the expansion needs, whatever the bytes: "the expansion's file"
+unfoldable pub length_of_expansion : List ℕ → Result ℕ Fault
+length_of_expansion f = where_accepted (length_answer f) (length (expansion_file f))

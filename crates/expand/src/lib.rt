@@ -2,8 +2,8 @@
 #![tactic(auto)]
 
 ghost use Rattle.std.specs.Prelude.{◌≡◌, ◌≤◌, length};
-ghost use Rattle.model.specs.declared.Verdict.TheVariants.{Accepted};
-ghost use Rattle.contents.specs.Inner.Findings.{found};
+ghost use Rattle.model.specs.Verdicts.{Accepted};
+ghost use Rattle.contents.specs.Found.{found};
 ghost use Rattle.format.specs.Opening.{opened};
 ghost use Rattle.judge.specs.Judged.{judged};
 ghost use Rattle.model.specs.Blocks.{size};
@@ -15,12 +15,12 @@ ghost use Rattle.expand.specs.Expanded.{expansion_rows, expand_answer, expanded,
 use contents::Opened;
 use format::open;
 use judge::judge_opened;
-use model::{Length, Verdict};
+use model::{Fault, Verdict};
 use products::all_calls;
 use reading::byte;
 use reading::kinds::{MOST_EXPANDED, PLACES};
 use sizes::{expansion_size, places};
-use writer::put_file;
+use writer::Expansion;
 
 // How long the expansion's file is, where it has so many records.
 fn file_length(plan: &[u8], records: u32) -> u32
@@ -37,7 +37,7 @@ fn expansion_tests(plan: &[u8], o: Opened, records: u32) -> Verdict
     ensures { result ≡ answer_of (expansion_rows plan.now) }
 {
     if MOST_EXPANDED < records {
-        return Verdict::Refused(16, 0);
+        return Err(Fault::Refused(16, 0));
     }
     all_calls(plan, o)
 }
@@ -49,26 +49,27 @@ fn expand_placed(plan: &[u8], o: Opened, places: &[u32; PLACES], out: &mut [u8])
     ensures output { out.new ≡ expanded plan.now out.old }
 {
     let records = expansion_size(o, places);
-    let tested = expansion_tests(plan, o, records);
-    let Verdict::Accepted = tested else {
-        return tested;
-    };
+    expansion_tests(plan, o, records)?;
     if out.len() < (file_length(plan, records) as usize) {
-        return Verdict::Refused(17, 0);
+        return Err(Fault::Refused(17, 0));
     }
-    put_file(plan, o, places, out, records);
-    Verdict::Accepted
+    Expansion { plan, o, places }.put_file(out, records);
+    Ok(())
 }
 
-// The judge's answer, 16, 26, 17, or accepted with the expansion's file written over the front of the output; opening has found the plan file to be o.
-pub fn expand_judged(plan: &[u8], o: Opened, out: &mut [u8], answer: Verdict) -> Verdict
+// The judge's answer, 16, 26, 17, or accepted with the expansion's file written over the front of the output; of the plan file opening gave o.
+pub fn expand_judged(
+    plan: &[u8],
+    o: Result<Opened, Fault>,
+    out: &mut [u8],
+    answer: Verdict,
+) -> Verdict
     requires { (o ≡ opened plan.now) × (answer ≡ judged plan.now) }
     ensures answer { result ≡ expand_answer plan.now out.old }
     ensures output { out.new ≡ expanded plan.now out.old }
 {
-    let Verdict::Accepted = answer else {
-        return answer;
-    };
+    let o = o?;
+    answer?;
     let places = places(plan, o);
     expand_placed(plan, o, &places, out)
 }
@@ -83,41 +84,21 @@ pub fn expand(plan: &[u8], out: &mut [u8]) -> Verdict
     expand_judged(plan, o, out, answer)
 }
 
-// A refused length.
-fn no_length(v: Verdict) -> Length
-    ensures { result ≡ record { verdict = v; bytes = 0 } }
-{
-    Length {
-        verdict: v,
-        bytes: 0,
-    }
-}
-
 // How many records the expansion has.
 fn expansion_records(plan: &[u8], o: Opened) -> u32
     requires { DeclaredFile plan.now × (o ≡ found plan.now) }
     ensures { result ≡ size (expansion_of plan.now).body }
 {
-    let places = places(plan, o);
-    expansion_size(o, &places)
+    expansion_size(o, &places(plan, o))
 }
 
-// How long an output the expansion of a plan file of any bytes needs: the answer that it then gets, and where that accepts, the length of its file.
-pub fn expansion_length(plan: &[u8]) -> Length
+// How long an output the expansion of a plan file of any bytes needs: the length of its file, or the answer that every output gets.
+pub fn expansion_length(plan: &[u8]) -> Result<u32, Fault>
     ensures { result ≡ length_of_expansion plan.now }
 {
-    let o = open(plan);
-    let answer = judge_opened(plan, o);
-    let Verdict::Accepted = answer else {
-        return no_length(answer);
-    };
-    let total = expansion_records(plan, o);
-    let tested = expansion_tests(plan, o, total);
-    let Verdict::Accepted = tested else {
-        return no_length(tested);
-    };
-    Length {
-        verdict: Verdict::Accepted,
-        bytes: file_length(plan, total),
-    }
+    let o = open(plan)?;
+    judge_opened(plan, Ok(o))?;
+    let records = expansion_records(plan, o);
+    expansion_tests(plan, o, records)?;
+    Ok(file_length(plan, records))
 }

@@ -5,7 +5,7 @@ ghost use Rattle.std.specs.Prelude.{◌≡◌};
 ghost use Rattle.exports.specs.Exported.{packed_for, PackedCheck, PackedRun, PackedLog, EntryOf};
 ghost use Rattle.check_bytes.specs.Packed.{packed_back_sums, packed_joined_sums};
 ghost use Rattle.packing.specs.Packed.{packed_answer, packed_part, packed_length, packed_view, tally_of};
-ghost use Rattle.format.specs.Opening.{opening, opened};
+ghost use Rattle.format.specs.Opening.{opening, opened, kind_of_opened};
 ghost use Rattle.format.specs.Views.{body_part};
 ghost use Rattle.judge.specs.Judged.{judged};
 ghost use Rattle.view.specs.Viewing.{memory_side};
@@ -13,18 +13,19 @@ ghost use Rattle.expand.specs.Expanded.{expand_answer, expanded, length_of_expan
 ghost use Rattle.run.specs.Running.{lent};
 ghost use Rattle.sheet.specs.Sheets.{sheet_answer, sheet_figures};
 
+use format::opened_kind;
 use model::Tally;
 use packing::{pack_answer, pack_length, pack_part, pack_view, put_figures};
 use sheet::FIGURES;
 
 // Opens a plan.
+#[tactic(auto, unfolding(crate::specs::Exported::packed_for, format::specs::Opening::opened))]
 #[unsafe(no_mangle)]
 pub extern "C" fn plan_open(plan: &[u8]) -> u64
     ensures { result ≡ packed_for plan.now 0 (opening plan.now) }
 {
     let o = format::open(plan);
-    let v = o.verdict;
-    pack_answer(o.kind, v, 0)
+    pack_answer(opened_kind(&o), o.map(|_| ()), 0)
 }
 
 // Where the records of a body stand in the plan.
@@ -36,51 +37,51 @@ pub extern "C" fn plan_body_view(plan: &[u8], body: u64) -> u64
 }
 
 // Checks a plan.
+#[tactic(auto, unfolding(crate::specs::Exported::packed_for))]
 #[unsafe(no_mangle)]
 pub extern "C" fn plan_check(plan: &[u8]) -> u64
     ensures { PackedCheck plan.now result }
 {
     let o = format::open(plan);
-    let kind = o.kind;
     let v = checker::check_opened(plan, o);
-    pack_answer(kind, v, 18)
+    pack_answer(opened_kind(&o), v, 18)
 }
 
 // Judges a plan.
+#[tactic(auto, unfolding(crate::specs::Exported::packed_for))]
 #[unsafe(no_mangle)]
 pub extern "C" fn plan_judge(plan: &[u8]) -> u64
     ensures { result ≡ packed_for plan.now 0 (judged plan.now) }
 {
     let o = format::open(plan);
-    let kind = o.kind;
     let v = judge::judge_opened(plan, o);
-    pack_answer(kind, v, 0)
+    pack_answer(opened_kind(&o), v, 0)
 }
 
 // Expands a plan into the output.
+#[tactic(auto, unfolding(crate::specs::Exported::packed_for))]
 #[unsafe(no_mangle)]
 pub extern "C" fn plan_expand(plan: &[u8], out: &mut [u8]) -> u64
     ensures answer { result ≡ packed_for plan.now 0 (expand_answer plan.now out.old) }
     ensures output { out.new ≡ expanded plan.now out.old }
 {
     let o = format::open(plan);
-    let kind = o.kind;
     let judged = judge::judge_opened(plan, o);
     let v = expand::expand_judged(plan, o, out, judged);
-    pack_answer(kind, v, 0)
+    pack_answer(opened_kind(&o), v, 0)
 }
 
 // How long an output the expansion needs.
 #[unsafe(no_mangle)]
 pub extern "C" fn plan_expansion_length(plan: &[u8]) -> u64
-    ensures { result ≡ packed_length (opened plan.now).kind (length_of_expansion plan.now) }
+    ensures { result ≡ packed_length (kind_of_opened (opened plan.now)) (length_of_expansion plan.now) }
 {
     let o = format::open(plan);
-    let length = expand::expansion_length(plan);
-    pack_length(o.kind, length)
+    pack_length(opened_kind(&o), expand::expansion_length(plan))
 }
 
 // Runs a plan on lent memories.
+#[tactic(auto, unfolding(crate::specs::Exported::packed_for))]
 #[unsafe(no_mangle)]
 pub extern "C" fn plan_run(
     plan: &[u8],
@@ -94,19 +95,16 @@ pub extern "C" fn plan_run(
     ensures { PackedRun plan.now choices.now (lent host.old card.old latest.old (tally_of tally.old)) (lent host.new card.new latest.new (tally_of tally.new)) figures.old figures.new result }
 {
     let o = format::open(plan);
-    let kind = o.kind;
+    let [reads, writes, moved] = *tally;
     let before = Tally {
-        reads: tally[0],
-        writes: tally[1],
-        moved: tally[2],
+        reads,
+        writes,
+        moved,
     };
     let c = run::run_opened(plan, o, host, card, latest, choices, before);
-    let t = c.tally;
-    *tally = [t.reads, t.writes, t.moved];
-    let e = c.end;
-    let v = e.verdict;
-    put_figures(e, figures);
-    pack_answer(kind, v, 21)
+    *tally = [c.tally.reads, c.tally.writes, c.tally.moved];
+    put_figures(c.end, figures);
+    pack_answer(opened_kind(&o), c.end.map(|_| ()), 21)
 }
 
 // Which side the view of a memory is of.
@@ -149,15 +147,14 @@ pub extern "C" fn plan_sheet(n: u64, figures: &mut [u64; FIGURES]) -> u64
 }
 
 // A log held against a plan.
+#[tactic(auto, unfolding(crate::specs::Exported::packed_for))]
 #[unsafe(no_mangle)]
 pub extern "C" fn plan_log(plan: &[u8], log: &[u8]) -> u64
     ensures { PackedLog plan.now log.now result }
 {
     let o = format::open(plan);
-    let kind = o.kind;
     let l = logs::log_opened(plan, o, log);
-    let v = l.verdict;
-    pack_answer(kind, v, 0)
+    pack_answer(opened_kind(&o), l.verdict, 0)
 }
 
 // The entry that the answer names.
@@ -165,6 +162,5 @@ pub extern "C" fn plan_log(plan: &[u8], log: &[u8]) -> u64
 pub extern "C" fn plan_log_entry(plan: &[u8], log: &[u8]) -> u64
     ensures { EntryOf plan.now log.now result }
 {
-    let l = logs::log(plan, log);
-    l.entry
+    logs::log(plan, log).entry
 }

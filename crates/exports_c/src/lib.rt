@@ -5,7 +5,7 @@ ghost use Rattle.std.specs.Prelude.{◌≡◌};
 ghost use Rattle.exports.specs.Exported.{packed_for, PackedCheck, PackedRun, PackedLog, EntryOf};
 ghost use Rattle.check_bytes.specs.Packed.{packed_back_sums, packed_joined_sums};
 ghost use Rattle.packing.specs.Packed.{packed_answer, packed_part, packed_length, packed_view, tally_of};
-ghost use Rattle.format.specs.Opening.{opening, opened};
+ghost use Rattle.format.specs.Opening.{opening, opened, kind_of_opened};
 ghost use Rattle.format.specs.Views.{body_part};
 ghost use Rattle.judge.specs.Judged.{judged};
 ghost use Rattle.view.specs.Viewing.{memory_side};
@@ -59,7 +59,7 @@ pub extern "C" fn plan_expand(plan: &[u8], out: &mut [u8]) -> u64
 // How long an output the expansion needs.
 #[unsafe(no_mangle)]
 pub extern "C" fn plan_expansion_length(plan: &[u8]) -> u64
-    ensures { result ≡ packed_length (opened plan.now).kind (length_of_expansion plan.now) }
+    ensures { result ≡ packed_length (kind_of_opened (opened plan.now)) (length_of_expansion plan.now) }
 {
     exports::plan_expansion_length(plan)
 }

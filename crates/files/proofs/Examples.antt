@@ -5,7 +5,7 @@ use mathlib.Core.List.{List, [], ◌∷◌}
 use mathlib.Core.Bool.{true, false}
 use Prim.Native.Nat.{ℕ}
 use Rattle.model.specs.Lists.{sum_before}
-use Rattle.model.specs.declared.Verdict.TheVariants.{Accepted, Refused}
+use Rattle.model.specs.Verdicts.{Accepted, Refused}
 use Rattle.model.specs.Sides.{host, card}
 use Rattle.model.specs.Records.{read, write}
 use Rattle.model.specs.Blocks.{Block, Plan}

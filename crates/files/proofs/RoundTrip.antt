@@ -8,7 +8,7 @@ use native.Mathlib.Nat.{zero-add, one-mul}
 use lib.ListN.{length, length-map}
 use lib.Dec.{leb}
 use borrow.Author.Tests.{eq-eqb, leb-true, le-leb}
-use Rattle.model.specs.declared.Verdict.TheVariants.{Accepted}
+use Rattle.model.specs.Verdicts.{Accepted}
 use Rattle.model.specs.Records.{Action}
 use Rattle.model.specs.Blocks.{size, largest, Plan}
 use Rattle.model.specs.Judging.{DeclaredPlan}

@@ -1,6 +1,6 @@
 -- What is proved of plans and their files: each theorem that a reader relies on, by name, with the place of its proof.
 use Rattle.std.specs.Prelude.{ℕ, ◌<◌, ◌≡◌, true, List}
-use Rattle.model.specs.declared.Verdict.TheVariants.{Accepted}
+use Rattle.model.specs.Verdicts.{Accepted}
 use Rattle.model.specs.Lists.{All}
 use Rattle.model.specs.Blocks.{Plan}
 use Rattle.model.specs.Judging.{DeclaredPlan}

@@ -1,21 +1,21 @@
 -- The body view: its answer after an opening, and the bytes of a body.
-use mathlib.Core.Path.{◌≡◌, refl, ap, ◌∙◌}
-use mathlib.Core.List.{List}
+use mathlib.Core.Path.{◌≡◌, ap, ◌∙◌}
 use Prim.Native.Nat.{ℕ, suc, ◌+◌, ◌*◌, ◌-◌, ◌≤◌, ◌<◌}
-use native.Mathlib.Nat.{add_comm}
 use native.Mathlib.Numerals.{add-one}
 use native.Mathlib.Omega.{arith}
 use lib.ListN.{length, take, drop, get_or}
 use borrow.Author.Tests.{le-leb, lt-leb}
-use Rattle.model.specs.Lists.{further}
-use Rattle.model.specs.declared.Verdict.{Verdict}
-use Rattle.model.specs.declared.Verdict.TheVariants.{Accepted, Refused}
+use Rattle.std.specs.Prelude.{Ok, Err, [], List}
+use Rattle.model.specs.declared.Fault.{Fault}
+use Rattle.model.specs.declared.Part.{Part}
+use Rattle.model.specs.Verdicts.{Verdict, Accepted, Refused}
+use Rattle.model.proofs.Verdicts.{faulty_where, found_where, where_accepts, where_faulty}
 use Rattle.contents.specs.declared.Opened.{Opened}
 use Rattle.reading.specs.Bytes.{array_count, entry_at, body_count, records_in, sizes_of, first_record, record_count, bodies_at}
 use Rattle.format.specs.Opening.{open_rows, opening}
-use Rattle.contents.specs.Inner.Findings.{found}
+use Rattle.contents.specs.Found.{found}
 use Rattle.format.specs.Views.{body_view_answer, body_at, body_view, body_part}
-use Rattle.model.proofs.Rows.{unaccepted, holds, skips, empty, stop, pass}
+use Rattle.model.proofs.Rows.{holds, skips, empty, stop, pass}
 use Rattle.reading.proofs.Tables.{first_rises, next_record}
 use Rattle.format.proofs.Walking.{opened_facts, body_start}
 
@@ -63,27 +63,36 @@ module _ (f : List ℕ) (b : ℕ) where
           low = omega (arith, ap (λ x. x.offset) eo, offset_low, w.header.arrays, w.header.bodies);
         }
 
-    pub part_there : (offset first next : ℕ) → Range offset first next → record { verdict = Accepted; from = offset + 8 * first; size = 8 * (next - first) } ≡ body_part f b
+    pub part_there : (offset first next : ℕ) → Range offset first next → Ok (record { from = offset + 8 * first; size = 8 * (next - first) }) ≡ body_part f b
     unfolding body_part
     part_there offset first next r =
         let n : 8 * (next - first) ≡ 8 * records_in f b = omega (arith, r.size) in
-        rw (n, r.start, ← view_some e h)
+        found_where _ _ _ (view_some e h) (rw (n, r.start))
 
   -- a refused part
-  pub part_none : (v : Verdict) → (v ≡ Accepted → ⊥) → v ≡ body_view_answer f b → record { verdict = v; from = 0; size = 0 } ≡ body_part f b
+  pub part_none : (e : Fault) → Err e ≡ body_view_answer f b → Err e ≡ body_part f b
   unfolding body_part
-  part_none v nay e = rw (← e, unaccepted v nay)
+  part_none e h = faulty_where _ _ _ h
 
-  -- the part is the view, within the file
-  pub part_answer : (body_part f b).verdict ≡ body_view_answer f b
-  unfolding body_part
-  part_answer = refl
+  -- and the other way round: the answer and the view, by the part
+  module _ (e : Fault) (h : Err e ≡ body_part f b) where
+    pub part_refuses : Err e ≡ body_view_answer f b
+    unfolding body_part
+    part_refuses = where_faulty _ _ _ h
 
-  pub part_view : take (body_part f b).size (drop (body_part f b).from f) ≡ body_view f b
-  unfolding body_view
-  part_view = refl
+    pub none_viewed : [] ≡ body_view f b
+    unfolding body_view
+    none_viewed = rw (← part_refuses)
 
-  -- at acceptance it begins where the body does in the file, wherever that is in memory
-  pub part_begins : (file : ℕ × ℕ) → body_view_answer f b ≡ Accepted → (file.0, (body_part f b).from + file.1) ≡ further file (body_at f b)
-  unfolding body_part
-  part_begins file e = rw e (ap (λ n. (file.0, n)) (add_comm (body_at f b) file.1))
+  module _ (p : Part) (h : Ok p ≡ body_part f b) where
+    pub part_accepts : Accepted ≡ body_view_answer f b
+    unfolding body_part
+    part_accepts = (where_accepts _ _ _ h).0
+
+    pub part_begins : p.from ≡ body_at f b
+    unfolding body_part
+    part_begins = ap (λ x. x.from) (where_accepts _ _ _ h).1
+
+    pub part_viewed : take p.size (drop p.from f) ≡ body_view f b
+    unfolding body_part body_view
+    part_viewed = rw ((where_accepts _ _ _ h).1, ← part_accepts)

@@ -1,11 +1,14 @@
 -- What those who walk a file that opens cite: what opening found, the file's bounds, and the parts of a block whose records pass their tests.
-use mathlib.Core.Path.{◌≡◌, ap, sym, ◌∙◌}
+use mathlib.Core.Path.{◌≡◌}
 use mathlib.Core.Bool.{true}
 use mathlib.Core.List.{List}
 use Prim.Native.Nat.{ℕ, zero, suc, ◌+◌, ◌*◌, ◌≤◌, ◌<◌}
 use native.Mathlib.Omega.{arith}
 use borrow.Author.Tests.{lt-ltb}
-use Rattle.model.specs.declared.Verdict.TheVariants.{Accepted}
+use Rattle.std.specs.Prelude.{Ok, Err}
+use Rattle.model.specs.declared.Fault.{Fault}
+use Rattle.model.specs.Verdicts.{Accepted}
+use Rattle.model.proofs.Verdicts.{where_accepts, where_faulty}
 use Rattle.reading.specs.declared.Fields.{Fields}
 use Rattle.contents.specs.declared.Opened.{Opened}
 use Rattle.model.specs.Rows.{answer_of}
@@ -13,8 +16,7 @@ use Rattle.reading.specs.Bytes.{body_count, records_in, first_record, fields_at,
 use Rattle.rules.specs.Rules.{fields_fit, record_rows}
 use Rattle.records.specs.Records.{block_rows, body_rows}
 use Rattle.format.specs.Opening.{opening, opened}
-use Rattle.contents.specs.Found.{found_by}
-use Rattle.contents.specs.Inner.Findings.{found}
+use Rattle.contents.specs.Found.{found}
 use Rattle.format.specs.Inner.Walks.{Good, Walkable}
 use Rattle.model.proofs.Rows.{passed, each_passed}
 use Rattle.reading.proofs.Tables.{next_record}
@@ -24,14 +26,18 @@ use Rattle.contents.proofs.Bounds.{Bounds, bounds_of}
 pub use Rattle.contents.proofs.Found.{array_start, body_start, declarations_at}
 
 -- what `open` gave
-module _ (f : List ℕ) (o : Opened) (e : o ≡ opened f) where
-  pub verdict_is : o.verdict ≡ opening f
+module _ (f : List ℕ) where
+  pub opens : (o : Opened) → Ok o ≡ opened f → Accepted ≡ opening f
   unfolding opened
-  verdict_is = ap (λ x. x.verdict) e
+  opens o e = (where_accepts _ _ _ e).0
 
-  pub found_is : o.verdict ≡ Accepted → o ≡ found f
+  pub found_is : (o : Opened) → Ok o ≡ opened f → o ≡ found f
   unfolding opened
-  found_is a = e ∙ ap (found_by f) (sym verdict_is ∙ a)
+  found_is o e = (where_accepts _ _ _ e).1
+
+  pub unopened : (e : Fault) → Err e ≡ opened f → Err e ≡ opening f
+  unfolding opened
+  unopened e h = where_faulty _ _ _ h
 
 -- what holds of a file that opens
 pub record Facts (f : List ℕ) : Type 0 where

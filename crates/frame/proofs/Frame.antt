@@ -6,7 +6,7 @@ use Prim.Native.Nat.{ℕ, ◌<◌, ◌≤◌, ◌+◌, ◌*◌, ◌-◌, ◌%◌
 use lib.Dec.{eqb}
 use lib.ListN.{length, take}
 use borrow.Author.Tests.{eq-eqb, ne_eqb, lt-ltb, le-ltb}
-use Rattle.model.specs.declared.Verdict.TheVariants.{Accepted, Refused}
+use Rattle.model.specs.Verdicts.{Accepted, Refused}
 use Rattle.model.specs.Rows.{answer_of}
 use Rattle.reading.specs.Bytes.{byte_at, record_count, bodies_at}
 use Rattle.sums.specs.Sums.{plain_sum, weighted_sum}

@@ -7,7 +7,7 @@ ghost use Rattle.reading.specs.Bytes.{byte_at, kind_of, array_count, body_count,
 ghost use Rattle.frame.specs.Frame.{header_fits, header_rows, tail_rows};
 
 use check_bytes::check_sums;
-use model::Verdict;
+use model::{Fault, Verdict};
 use reading::byte;
 use reading::kinds::{DECLARED, MOST_ARRAYS, MOST_BODIES, PLAIN};
 
@@ -15,6 +15,7 @@ use reading::kinds::{DECLARED, MOST_ARRAYS, MOST_BODIES, PLAIN};
 fn header_fits(kind: u8, arrays: u8, bodies: u8, zero: u8) -> bool
     ensures { (f : List ℕ) → (kind ≡ kind_of f) × (arrays ≡ array_count f) × (bodies ≡ body_count f) × (zero ≡ byte_at f 3) → result ≡ header_fits f }
 {
+    // Strict `&` and `|` are the rule's own words; `&&` would split into ways through it.
     ((DECLARED <= kind) & (kind <= PLAIN))
         & ((1 <= arrays) & (arrays <= MOST_ARRAYS))
         & ((1 <= bodies) & (bodies <= MOST_BODIES))
@@ -28,12 +29,12 @@ pub fn header(plan: &[u8]) -> Verdict
     ensures { result ≡ answer_of (header_rows plan.now) }
 {
     if plan.len() < 4 {
-        return Verdict::Refused(1, 0);
+        return Err(Fault::Refused(1, 0));
     }
     if !header_fits(byte(plan, 0), byte(plan, 1), byte(plan, 2), byte(plan, 3)) {
-        return Verdict::Refused(2, 0);
+        return Err(Fault::Refused(2, 0));
     }
-    Verdict::Accepted
+    Ok(())
 }
 
 // Numbers 6 and 7, of a file with so many records, whose bodies begin at `offset`.
@@ -42,14 +43,14 @@ pub fn tail(plan: &[u8], offset: usize, records: usize) -> Verdict
     ensures { result ≡ answer_of (tail_rows plan.now) }
 {
     if plan.len() != offset + 8 * records + 2 {
-        return Verdict::Refused(6, 0);
+        return Err(Fault::Refused(6, 0));
     }
     let n = plan.len() - 2;
     let s = check_sums(&plan[..n]);
     let plain = byte(plan, n);
     let weighted = byte(plan, n + 1);
     if !((plain == s.plain) & (weighted == s.weighted)) {
-        return Verdict::Refused(7, 0);
+        return Err(Fault::Refused(7, 0));
     }
-    Verdict::Accepted
+    Ok(())
 }

@@ -1,7 +1,9 @@
 -- Records and their bytes.
 use mathlib.Core.Path.{◌≡◌, refl, ◌∙◌}
 use mathlib.Core.List.{List, [], ◌∷◌, ◌++◌, append_assoc}
-use Prim.Native.Nat.{ℕ, ◌*◌, ◌-◌, ◌≤◌}
+use Prim.Native.Nat.{ℕ, ◌*◌, ◌-◌, ◌/◌, ◌%◌, ◌^◌, ◌≤◌, ◌<◌}
+use native.Mathlib.Nat.{mod-eq_of_lt}
+use native.Mathlib.Omega.{arith}
 use lib.ListN.{length}
 use borrow.Rule.Slice.PartMut.{mid_of, put_mid}
 use Rattle.model.specs.Records.{Action}
@@ -14,6 +16,10 @@ use Rattle.files.proofs.Files.Holding.{joined_length}
 use Rattle.files.proofs.Files.Records.{fields_count}
 use Rattle.given.specs.Inner.Over.{over, bytes_of}
 use Rattle.given.proofs.Over.{over_none, over_lent}
+
+-- the high byte of a number of two bytes
+pub high_byte : (n : ℕ) → n < 2 ^ 16 → n / 256 % 256 ≡ n / 256
+high_byte n h = mod-eq_of_lt (omega arith)
 
 pub joined_append : {A : Type 0} (g : A → List ℕ) (l m : List A) → chain g (l ++ m) ≡ chain g l ++ chain g m
 joined_append g [] m = refl

@@ -17,16 +17,9 @@ pub fn put_record(out: &mut [u8], x: Fields)
     requires { 8 ≤ length out.old }
     ensures { out.new ≡ over (record_bytes x) out.old }
 {
-    let p = x.p;
-    let q = x.q;
-    out[0] = x.kind;
-    out[1] = x.side;
-    out[2] = x.array;
-    out[3] = x.step;
-    out[4] = (p % 256) as u8;
-    out[5] = (p / 256) as u8;
-    out[6] = (q % 256) as u8;
-    out[7] = (q / 256) as u8;
+    let [p0, p1] = x.p.to_le_bytes();
+    let [q0, q1] = x.q.to_le_bytes();
+    out[..8].copy_from_slice(&[x.kind, x.side, x.array, x.step, p0, p1, q0, q1]);
 }
 
 // A need or a mark, of kind 4 or 5.
@@ -37,9 +30,9 @@ pub fn put_given(out: &mut [u8], kind: u8, side: u8, array: u8)
     put_record(
         out,
         Fields {
-            kind: kind,
-            side: side,
-            array: array,
+            kind,
+            side,
+            array,
             step: 0,
             p: 0,
             q: 0,
@@ -53,8 +46,7 @@ pub fn put_declaration(out: &mut [u8], x: Fields) -> usize
     ensures size { result ≡ size (given_by x) }
     ensures bytes { out.new ≡ over (bytes_of (block_fields (given_by x))) out.old }
 {
-    let side = x.side;
-    let array = x.array;
+    let Fields { side, array, .. } = x;
     if x.kind == W {
         put_given(out, MARK, side, array);
         return 1;
@@ -80,12 +72,9 @@ pub fn put_declarations(
     ensures bytes { out.new ≡ over (bytes_of (block_fields (declared_from plan.now from count))) out.old }
 {
     let mut n: usize = 0;
-    let mut i: usize = 0;
-    while i < count {
+    for i in 0..count {
         let x = record_at(plan, bodies, from + i);
-        let at = 8 * n;
-        n += put_declaration(&mut out[at..], x);
-        i += 1;
+        n += put_declaration(&mut out[8 * n..], x);
     }
     n
 }

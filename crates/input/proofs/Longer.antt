@@ -11,16 +11,17 @@ use lib.ListN.{length, take}
 use lib.Seq.{take_all, length-take-le, get_or-take}
 use borrow.Author.Tests.{le-ltb, ne_eqb, ltb-false}
 use Rattle.model.proofs.Booleans.{or_none}
-use Rattle.model.specs.declared.Verdict.TheVariants.{Accepted, Refused}
+use Rattle.std.specs.Prelude.{Ok, Err}
+use Rattle.contents.specs.declared.Opened.{Opened}
+use Rattle.model.specs.Verdicts.{Verdict, Accepted, Refused, where_accepted}
 use Rattle.model.specs.Rows.{Row, row, answer_of, all_rows}
 use Rattle.reading.specs.Bytes.{byte_at, u16_at, array_count, body_count, table, length_at, entry_at, records_in, declarations_in, sizes_of, first_record, record_count, bodies_at, lengths_of}
 use Rattle.frame.specs.Frame.{header_fits, header_rows, tail_rows}
 use Rattle.contents.specs.Contents.{array_rows, entry_rows, contents_rows, front_rows}
 use Rattle.records.specs.Records.{body_rows}
 use Rattle.format.specs.Opening.{open_rows, opening, opened}
-use Rattle.contents.specs.Inner.Findings.{nothing_found}
+use Rattle.contents.specs.Found.{found}
 use Rattle.model.proofs.Rows.{refused, holds, stop, passed, skipped, each_passed}
-use Rattle.contents.proofs.Places.{nothing}
 use Rattle.contents.proofs.Bounds.{Header, header_bounds}
 use Rattle.input.specs.Longer.{Decided, Longer}
 
@@ -140,9 +141,13 @@ refuses f l e =
     refused (sym (sixth f (header_bounds f p.0) l q.0 _)) (sym q.1)
 
 -- a refusal finds nothing, so the same answer is the same result
+same_refused : (v : Verdict) (x y : Opened) → (v ≡ Accepted → ⊥) → where_accepted v x ≡ where_accepted v y
+same_refused (Ok u) x y nay = absurd (nay refl)
+same_refused (Err e) x y nay = refl
+
 same_opened : (f g : List ℕ) → (opening f ≡ Accepted → ⊥) → opening f ≡ opening g → opened f ≡ opened g
 unfolding opened
-same_opened f g nay e = sym (nothing f (nothing_found (opening f)) (opening f) (opening f) nay refl refl) ∙ nothing g (nothing_found (opening f)) (opening f) (opening g) nay refl e
+same_opened f g nay e = same_refused (opening f) (found f) (found g) nay ∙ rw e
 
 -- and every service refuses as opening does
 same_services : (f g : List ℕ) → (opening f ≡ Accepted → ⊥) → opening f ≡ opening g → (rows whole : List Row) → answer_of (open_rows g ++ rows) ≡ answer_of (open_rows f ++ whole)

@@ -1,6 +1,6 @@
 -- Inputs longer than every plan file (document 01, 'The plan file': 32 arrays, 32 bodies and 1,024 records at most).
 use Rattle.std.specs.Prelude.{ℕ, ◌<◌, ◌≡◌, List, ◌++◌, length, take}
-use Rattle.model.specs.declared.Verdict.TheVariants.{Accepted}
+use Rattle.model.specs.Verdicts.{Accepted}
 use Rattle.model.specs.Rows.{Row, answer_of}
 use Rattle.format.specs.Opening.{open_rows, opening, opened}
 

@@ -1,12 +1,12 @@
 // Reading the files that a program's arguments name.
+ghost use Rattle.std.specs.Prelude.{IfSome};
 ghost use Rattle.input.specs.Counts.{IsPrefixLen};
 
-use crate::{Input, read_input};
-use console::say;
-use console::streams::put;
+use crate::read_input;
+use console::program::Program;
 use std::env::{Env, FillError};
 use std::fs;
-use std::io::{Error, Read, Result, Stderr};
+use std::io::{Error, Read, Result};
 use std::rt::Files;
 use std::str::from_utf8;
 
@@ -16,17 +16,6 @@ const INVALID: i32 = 22;
 const TOO_LONG: i32 = 36;
 
 const NO_TEXT: i32 = 84;
-
-// Says on standard error which file cannot be read and why: the program, what the file is for, its path as far as it is known, and the system's words.
-fn unread(err: Stderr, program: &[u8], what: &[u8], path: &[u8], why: Error) {
-    put(err, program);
-    put(err, b": ");
-    put(err, what);
-    if path.len() != 0 {
-        put(err, b" ");
-    }
-    say(err, path, why);
-}
 
 // Why there is no argument.
 fn missing(why: FillError) -> Error {
@@ -44,78 +33,70 @@ fn open_path<R: Files>(rt: &R, path: &[u8]) -> Result<R::File> {
     }
 }
 
-// Opens the file that argument i names: None where it cannot, and has said why.
-pub fn open_argument<R: Env + Files>(
-    rt: &R,
-    err: Stderr,
-    program: &[u8],
-    i: usize,
-    what: &[u8],
-) -> Option<R::File> {
-    let mut path = [0u8; 4096];
-    match rt.arg(i, &mut path) {
-        Ok(n) => match open_path(rt, &path[..n]) {
-            Ok(file) => Some(file),
+// A file that an argument of a program names: which one, and what the file is for.
+#[derive(Clone, Copy)]
+pub struct NamedFile {
+    pub program: Program,
+    pub argument: usize,
+    pub what: &'static str,
+}
+
+impl NamedFile {
+    // Says on standard error that it cannot be read and why: the program, what the file is for, its path as far as it is known, and the system's words.
+    fn unread(&self, path: &[u8], why: Error) {
+        self.program.begin();
+        self.program.put(self.what.as_bytes());
+        if !path.is_empty() {
+            self.program.put(b" ");
+        }
+        self.program.say(path, why);
+    }
+
+    // Opens it; None where it cannot, and has said why.
+    pub fn open<R: Env + Files>(&self, rt: &R) -> Option<R::File> {
+        let mut path = [0u8; 4096];
+        match rt.arg(self.argument, &mut path) {
+            Ok(n) => match open_path(rt, &path[..n]) {
+                Ok(file) => Some(file),
+                Err(why) => {
+                    self.unread(&path[..n], why);
+                    None
+                }
+            },
             Err(why) => {
-                unread(err, program, what, &path[..n], why);
+                self.unread(b"", missing(why));
                 None
             }
-        },
-        Err(why) => {
-            unread(err, program, what, b"", missing(why));
-            None
         }
     }
-}
 
-// Says why the file that argument i names cannot be read on.
-fn stopped(env: &impl Env, err: Stderr, program: &[u8], i: usize, what: &[u8], why: Error) {
-    let mut path = [0u8; 4096];
-    match env.arg(i, &mut path) {
-        Ok(n) => unread(err, program, what, &path[..n], why),
-        Err(_) => unread(err, program, what, b"", why),
-    }
-}
-
-// Reads on in that file as far as the room goes, or says why it cannot.
-pub fn read_on<R: Env, F: Read>(
-    rt: &R,
-    err: Stderr,
-    program: &[u8],
-    i: usize,
-    what: &[u8],
-    file: &mut F,
-    room: &mut [u8],
-) -> Input
-    ensures { IsPrefixLen result.size room.new }
-{
-    let input = read_input(file, room);
-    if let Some(why) = input.why {
-        stopped(rt, err, program, i, what, why);
-    }
-    input
-}
-
-// Reads the file that argument i names as far as the room goes.
-pub fn read_argument<R: Env + Files>(
-    rt: &R,
-    err: Stderr,
-    program: &[u8],
-    i: usize,
-    what: &[u8],
-    room: &mut [u8],
-) -> Input
-    ensures { IsPrefixLen result.size room.new }
-{
-    match open_argument(rt, err, program, i, what) {
-        Some(file) => {
-            let mut from = file;
-            read_on(rt, err, program, i, what, &mut from, room)
+    // Says why it cannot be read on.
+    fn stopped(&self, env: &impl Env, why: Error) {
+        let mut path = [0u8; 4096];
+        match env.arg(self.argument, &mut path) {
+            Ok(n) => self.unread(&path[..n], why),
+            Err(_) => self.unread(b"", why),
         }
-        None => Input {
-            size: 0,
-            failed: true,
-            why: None,
-        },
+    }
+
+    // Reads on in it, once it is open, as far as the room goes; None where it cannot, and has said why.
+    pub fn read_on<R: Env, F: Read>(&self, rt: &R, file: &mut F, room: &mut [u8]) -> Option<usize>
+        ensures { IfSome result (λ n. IsPrefixLen n room.new) }
+    {
+        match read_input(file, room) {
+            Ok(size) => Some(size),
+            Err(why) => {
+                self.stopped(rt, why);
+                None
+            }
+        }
+    }
+
+    // Opens it and reads it as far as the room goes; None where it cannot, and has said why.
+    pub fn read<R: Env + Files>(&self, rt: &R, room: &mut [u8]) -> Option<usize>
+        ensures { IfSome result (λ n. IsPrefixLen n room.new) }
+    {
+        let mut file = self.open(rt)?;
+        self.read_on(rt, &mut file, room)
     }
 }

@@ -1,10 +1,11 @@
 // Reading a plan file, or another.
 #![tactic(auto)]
 
-ghost use Rattle.std.specs.Prelude.{◌≡◌, ◌+◌, ◌≤◌, length};
+ghost use Rattle.std.specs.Prelude.{IfOk, IfSome};
 ghost use Rattle.input.specs.Counts.{IsPrefixLen};
 
-use std::io::{Error, Read, Stderr, Stdin};
+use console::program::Program;
+use std::io::{Read, Result, Stdin};
 
 pub mod files;
 
@@ -12,71 +13,32 @@ pub mod files;
 // (specs/Longer).
 pub const ROOM: usize = 8391;
 
-// What reading gave: so many bytes at the front of the room, or a failure; and of a read that failed, why.
-#[derive(Clone, Copy)]
-pub struct Input {
-    pub size: usize,
-    pub failed: bool,
-    pub why: Option<Error>,
-}
-
-// One read.
-fn read_once<R: Read>(from: &mut R, room: &mut [u8]) -> Input
-    ensures { IsPrefixLen result.size room.new }
-{
-    match from.read(room) {
-        Ok(size) => Input {
-            size,
-            failed: false,
-            why: None,
-        },
-        Err(why) => Input {
-            size: 0,
-            failed: true,
-            why: Some(why),
-        },
-    }
-}
-
-// One read behind the bytes that stand in the room already; a room that stays as long as it was.
-fn read_behind<R: Read>(from: &mut R, room: &mut [u8], size: usize) -> Input
-    requires { size ≤ length room.old }
-    ensures { (size + result.size ≤ length room.new) × (length room.new ≡ length room.old) }
-{
-    read_once(from, &mut room[size..])
-}
-
-// Reads until the room is full, the input ends or a read fails.
-pub fn read_input<R: Read>(from: &mut R, room: &mut [u8]) -> Input
-    ensures { IsPrefixLen result.size room.new }
+// Reads until the room is full, the input ends or a read fails, and answers how many bytes stand at the front of the room.
+pub fn read_input<R: Read>(from: &mut R, room: &mut [u8]) -> Result<usize>
+    ensures { IfOk result (λ n. IsPrefixLen n room.new) }
 {
     let mut size = 0;
+    // Not a range: a step is what a read gave.
     while size < room.len() {
-        let more = read_behind(from, room, size);
-        if more.size == 0 {
-            return Input {
-                size: size,
-                failed: more.failed,
-                why: more.why,
-            };
+        let more = from.read(&mut room[size..])?;
+        if more == 0 {
+            return Ok(size);
         }
-        size += more.size;
+        size += more;
     }
-    Input {
-        size: size,
-        failed: false,
-        why: None,
-    }
+    Ok(size)
 }
 
-// Reads standard input, and says on standard error where that fails.
-pub fn read_plan(stdin: Stdin, err: Stderr, program: &[u8], room: &mut [u8]) -> Input
-    ensures { IsPrefixLen result.size room.new }
+// Reads standard input; None where that fails, and it has said so on standard error.
+pub fn read_plan(stdin: Stdin, program: Program, room: &mut [u8]) -> Option<usize>
+    ensures { IfSome result (λ n. IsPrefixLen n room.new) }
 {
     let mut from = stdin;
-    let input = read_input(&mut from, room);
-    if let Some(why) = input.why {
-        console::fail(err, program, b"standard input", why);
+    match read_input(&mut from, room) {
+        Ok(size) => Some(size),
+        Err(why) => {
+            program.fail(b"standard input", why);
+            None
+        }
     }
-    input
 }

@@ -1,6 +1,6 @@
 -- What is proved of the judge's rows, besides the contract of `judge`.
 use Rattle.std.specs.Prelude.{ℕ, ◌+◌, ◌≡◌, ◌↔◌, Bool, true, false, List}
-use Rattle.model.specs.declared.Verdict.TheVariants.{Accepted, Refused}
+use Rattle.model.specs.Verdicts.{Accepted, Refused}
 use Rattle.model.specs.Lists.{any}
 use Rattle.model.specs.Sides.{span_of, in_span}
 use Rattle.model.specs.Records.{Action}

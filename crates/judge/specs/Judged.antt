@@ -1,7 +1,7 @@
 -- Numbers 11 and 15, and those of a pass by record, 12 to 14, in their order (document 01, 'Numbers by the place where each is checked' and
 -- 'Judging and expanding').
 use Rattle.std.specs.Prelude.{ℕ, suc, ◌+◌, ◌-◌, not, ◌&&◌, List, [], ◌∷◌, ◌++◌, eqb}
-use Rattle.model.specs.declared.Verdict.{Verdict}
+use Rattle.model.specs.Verdicts.{Verdict}
 use Rattle.model.specs.Sides.{span_of}
 use Rattle.model.specs.Judging.{all_written}
 use Rattle.model.specs.Rows.{Row, row, answer_of, all_rows}

@@ -2,24 +2,24 @@
 #![tactic(auto)]
 
 ghost use Rattle.std.specs.Prelude.{◌≡◌, true, ℕ, suc, ◌-◌};
-ghost use Rattle.model.specs.declared.Verdict.TheVariants.{Accepted};
+ghost use Rattle.model.specs.Verdicts.{Accepted};
 ghost use Rattle.model.specs.Rows.{answer_of, all_rows};
 ghost use Rattle.reading.specs.Bytes.{is_declared, body_count, declarations_in};
-ghost use Rattle.contents.specs.Inner.Findings.{found};
+ghost use Rattle.contents.specs.Found.{found};
 ghost use Rattle.format.specs.Opening.{opening, opened};
 ghost use Rattle.passes.specs.Inner.Passes.{PassAt};
-ghost use Rattle.permits.specs.Inner.Uses.{Sides};
+ghost use Rattle.permits.specs.Inner.Uses.{ByArray};
 ghost use Rattle.marks.specs.Inner.Marks.{Tables};
 ghost use Rattle.judge.specs.Judged.{w_rows, pass_rows, judged};
 ghost use Rattle.judge.specs.Inner.Unmet.{Decides};
 
 use contents::Opened;
 use format::open;
-use marks::{mark_written, met};
-use model::Verdict;
+use marks::{Declared, mark_written, met};
+use model::{Fault, Verdict};
 use passes::{Extent, extent_of};
 use permits::{declarations, uses};
-use reading::kinds::{CELLS, DECLARED, NAMES, STARTS};
+use reading::kinds::{CELLS, DECLARED, STARTS};
 use reading::record_at;
 
 // Number 15 by the set of the cells that every way through the pass writes: the lowest declaration that is not met.
@@ -27,20 +27,18 @@ fn first_unmet(plan: &[u8], starts: &[u16; STARTS], set: &[bool; CELLS], e: Exte
     requires { PassAt plan.now e × Decides plan.now starts.now set.now e }
     ensures { result ≡ answer_of (all_rows (declarations_in plan.now e.body) (w_rows plan.now e.body)) }
 {
-    let mut i: usize = 0;
-    while i < e.declarations {
+    for i in 0..e.declarations {
         let r = e.from + i;
         if !met(starts, set, record_at(plan, e.bodies, r)) {
-            return Verdict::Refused(15, r as u16);
+            return Err(Fault::Refused(15, r as u16));
         }
-        i += 1;
     }
-    Verdict::Accepted
+    Ok(())
 }
 
-// Number 15 of a pass, of whose declarations these are the sides by array.
-fn unmet(plan: &[u8], starts: &[u16; STARTS], e: Extent, sides: &[u8; NAMES]) -> Verdict
-    requires { PassAt plan.now e × Sides plan.now e sides.now × Tables plan.now starts.now sides.now }
+// Number 15 of a pass, which declares this of each array.
+fn unmet(plan: &[u8], starts: &[u16; STARTS], e: Extent, declared: &Declared) -> Verdict
+    requires { PassAt plan.now e × ByArray plan.now e declared.now × Tables plan.now starts.now declared.now }
     ensures { result ≡ answer_of (all_rows (declarations_in plan.now e.body) (w_rows plan.now e.body)) }
 {
     let mut set = [false; CELLS];
@@ -48,7 +46,7 @@ fn unmet(plan: &[u8], starts: &[u16; STARTS], e: Extent, sides: &[u8; NAMES]) ->
         plan,
         e.bodies,
         starts,
-        sides,
+        declared,
         &mut set,
         e.from + e.declarations,
         e.from + e.records,
@@ -61,17 +59,9 @@ fn judge_pass(plan: &[u8], starts: &[u16; STARTS], e: Extent) -> Verdict
     requires { PassAt plan.now e × (starts.now ≡ (found plan.now).array_starts) }
     ensures { result ≡ answer_of (pass_rows plan.now e.body) }
 {
-    let mut kinds = [0u8; NAMES];
-    let mut sides = [0u8; NAMES];
-    let twice = declarations(plan, e, &mut kinds, &mut sides);
-    let Verdict::Accepted = twice else {
-        return twice;
-    };
-    let used = uses(plan, e, &kinds, &sides);
-    let Verdict::Accepted = used else {
-        return used;
-    };
-    unmet(plan, starts, e, &sides)
+    let declared = declarations(plan, e)?;
+    uses(plan, e, &declared)?;
+    unmet(plan, starts, e, &declared)
 }
 
 // Numbers 12 to 15 of every pass, in which opening found o.
@@ -79,30 +69,20 @@ fn all_passes(plan: &[u8], o: Opened) -> Verdict
     requires { (Accepted ≡ opening plan.now) × (is_declared plan.now ≡ true) × (o ≡ found plan.now) }
     ensures { result ≡ answer_of (all_rows (body_count plan.now - 1) (λ (b : ℕ). pass_rows plan.now (suc b))) }
 {
-    let bodies = o.bodies as usize;
-    let starts = o.array_starts;
-    let mut b: usize = 1;
-    while b < bodies {
-        let v = judge_pass(plan, &starts, extent_of(o, b));
-        let Verdict::Accepted = v else {
-            return v;
-        };
-        b += 1;
+    for b in 1..o.bodies as usize {
+        judge_pass(plan, &o.array_starts, extent_of(o, b))?;
     }
-    Verdict::Accepted
+    Ok(())
 }
 
-// Judges a plan file that opening has found to be o.
-pub fn judge_opened(plan: &[u8], o: Opened) -> Verdict
+// Judges a plan file of which opening gave o.
+pub fn judge_opened(plan: &[u8], o: Result<Opened, Fault>) -> Verdict
     requires { o ≡ opened plan.now }
     ensures { result ≡ judged plan.now }
 {
-    let v = o.verdict;
-    let Verdict::Accepted = v else {
-        return v;
-    };
+    let o = o?;
     if o.kind != DECLARED {
-        return Verdict::Refused(11, 0);
+        return Err(Fault::Refused(11, 0));
     }
     all_passes(plan, o)
 }

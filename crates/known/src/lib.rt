@@ -15,21 +15,60 @@ pub struct Known {
     pub card: u64,
 }
 
-// At the start of a run: the arrays that are flagged on the host are current there.
-pub fn known_at_start(flags: u64) -> Known
-    ensures { result ≡ at_start flags }
-{
-    Known {
-        host: flags,
-        card: 0,
+impl Known {
+    // At the start of a run: the arrays that are flagged on the host are current there.
+    pub fn at_start(flags: u64) -> Known
+        ensures { result ≡ at_start flags }
+    {
+        Known {
+            host: flags,
+            card: 0,
+        }
     }
-}
 
-// Whether the cells `from` up to `to` are all cells of an array, which begins at cell `first` and ends before cell `next`.
-pub fn is_whole(from: usize, to: usize, first: u16, next: u16) -> bool
-    ensures { result ≡ (eqb from first && eqb to next) }
-{
-    (from == first as usize) & (to == next as usize)
+    // What is known on a side.
+    fn on_side(self, on_card: bool) -> u64
+        ensures { result ≡ known_in on_card self }
+    {
+        if on_card { self.card } else { self.host }
+    }
+
+    // Whether the cells of an array are known to be current on a side.
+    pub fn sure(self, on_card: bool, array: u8) -> bool
+        requires { array < 32 }
+        ensures { (from to : ℕ) (host card latest : List ℕ) → Sure self array from to host card latest → result ≡ true → AllCurrent (of_side on_card host card) latest from to }
+    {
+        flag_set(self.on_side(on_card), array)
+    }
+
+    // After a write of cells of an array, or of the whole of it, on a side: those on the other side are stale.
+    pub fn written(self, on_card: bool, whole: bool, array: u8) -> Known
+        requires { array < 32 }
+        ensures { Wrote on_card whole array self result }
+    {
+        if on_card {
+            Known {
+                host: without_flag(self.host, array),
+                card: added(self.card, whole, array),
+            }
+        } else {
+            Known {
+                host: added(self.host, whole, array),
+                card: without_flag(self.card, array),
+            }
+        }
+    }
+
+    // After a copy of them: they are current on both.
+    pub fn copied(self, whole: bool, array: u8) -> Known
+        requires { array < 32 }
+        ensures { Copied whole array self result }
+    {
+        Known {
+            host: added(self.host, whole, array),
+            card: added(self.card, whole, array),
+        }
+    }
 }
 
 // An array added to a set, where all its cells have become current.
@@ -38,53 +77,15 @@ fn added(known: u64, whole: bool, array: u8) -> u64
     ensures { Added whole array known result }
 {
     if whole {
-        return with_flag(known, array);
-    }
-    known
-}
-
-// After a write of cells of an array, or of the whole of it, on a side: those on the other side are stale.
-pub fn known_written(k: Known, on_card: bool, whole: bool, array: u8) -> Known
-    requires { array < 32 }
-    ensures { Wrote on_card whole array k result }
-{
-    if on_card {
-        return Known {
-            host: without_flag(k.host, array),
-            card: added(k.card, whole, array),
-        };
-    }
-    Known {
-        host: added(k.host, whole, array),
-        card: without_flag(k.card, array),
+        with_flag(known, array)
+    } else {
+        known
     }
 }
 
-// After a copy of them: they are current on both.
-pub fn known_copied(k: Known, whole: bool, array: u8) -> Known
-    requires { array < 32 }
-    ensures { Copied whole array k result }
+// Whether the cells `from` up to `to` are all cells of an array, which begins at cell `first` and ends before cell `next`.
+pub fn is_whole(from: usize, to: usize, first: u16, next: u16) -> bool
+    ensures { result ≡ (eqb from first && eqb to next) }
 {
-    Known {
-        host: added(k.host, whole, array),
-        card: added(k.card, whole, array),
-    }
-}
-
-// What is known on a side.
-fn on_side(k: Known, on_card: bool) -> u64
-    ensures { result ≡ known_in on_card k }
-{
-    if on_card {
-        return k.card;
-    }
-    k.host
-}
-
-// Whether the cells of an array are known to be current on a side.
-pub fn sure(k: Known, on_card: bool, array: u8) -> bool
-    requires { array < 32 }
-    ensures { (from to : ℕ) (host card latest : List ℕ) → Sure k array from to host card latest → result ≡ true → AllCurrent (of_side on_card host card) latest from to }
-{
-    flag_set(on_side(k, on_card), array)
+    from == usize::from(first) && to == usize::from(next)
 }

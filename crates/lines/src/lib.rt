@@ -3,8 +3,9 @@
 
 pub mod parts;
 pub mod records;
+mod words;
 
 // The last number before an end.
-fn last(end: u16) -> u64 {
-    if end == 0 { 0 } else { (end - 1) as u64 }
+fn last(end: u16) -> u16 {
+    end.saturating_sub(1)
 }

@@ -7,20 +7,21 @@ use native.Mathlib.Omega.{arith}
 use lib.ListN.{length, get_or, take, drop, length-drop}
 use lib.Seq.{get_or-take, get_or-drop, length-take-le}
 use borrow.Author.Tests.{leb-false}
-use Rattle.model.specs.declared.Verdict.TheVariants.{Accepted}
+use Rattle.std.specs.Prelude.{Ok}
+use Rattle.model.specs.Verdicts.{Accepted}
 use Rattle.model.specs.Sides.{span_of}
 use Rattle.reading.specs.declared.Fields.{Fields}
 use Rattle.contents.specs.declared.Opened.{Opened}
 use Rattle.reading.specs.Bytes.{byte_at, u16_at, array_count, body_count, length_at, layout_of, records_in, sizes_of, first_record, bodies_at, fields_at, first_arm, second_arm}
-use Rattle.format.specs.Opening.{open_rows, opening}
-use Rattle.contents.specs.Inner.Findings.{found}
+use Rattle.format.specs.Opening.{open_rows, opening, opened}
+use Rattle.contents.specs.Found.{found}
 use Rattle.format.specs.Views.{body_view_answer, body_at, body_part, body_view}
 use Rattle.format.specs.Inner.Walks.{Walkable}
 use Rattle.model.proofs.Rows.{skipped, passed}
 use Rattle.reading.proofs.Tables.{next_cell, next_record, first_rises}
 use Rattle.contents.proofs.Bounds.{entry_inside}
 use Rattle.format.proofs.Views.{view_some}
-use Rattle.format.proofs.Walking.{steps, opened_facts, array_start, body_start}
+use Rattle.format.proofs.Walking.{opens, found_is, steps, opened_facts, array_start, body_start}
 use Rattle.format.proofs.Acts.{arms}
 use Rattle.listing.specs.Inner.Bodies.{fields_in, Listable}
 
@@ -35,10 +36,10 @@ pub record Stands (f starts : List ℕ) (b : ℕ) : Type 0 where
   pub few : get_or starts (b + 1) 0 ≤ 1024
   pub lists : Listable (body_view f b) (get_or starts b 0) 0 (get_or starts (b + 1) 0 - get_or starts b 0)
 
--- a body that the body view accepts
-pub viewed_body : (f : List ℕ) (b : ℕ) → Accepted ≡ body_view_answer f b → (Accepted ≡ opening f) × (b < body_count f)
-unfolding body_view_answer opening
-viewed_body f b e = let p = passed (open_rows f) _ e in (p.0, leb-false _ _ (skipped _ _ _ _ p.1).0)
+-- the plan has a body that the body view accepts
+pub viewed_body : (f : List ℕ) (b : ℕ) → Accepted ≡ body_view_answer f b → b < body_count f
+unfolding body_view_answer
+viewed_body f b e = leb-false _ _ (skipped _ _ _ _ (passed (open_rows f) _ e).1).0
 
 -- the same records of a plan, from one number to another
 moved : {f : List ℕ} {r end : ℕ} (s t : ℕ) → r ≡ s → end ≡ t → Walkable f r end → Walkable f s t
@@ -71,7 +72,16 @@ module _ (f : List ℕ) (b : ℕ) where
   unfolding fields_in fields_at
   record_near i h = same_fields body_bytes f (8 * i) (bodies_at f + 8 * (first_record f b + i)) (λ m n k p q l. rw (p, q) (near (8 * i + k) (omega arith) ∙ ap (byte_at f) (omega arith)))
 
-module _ (f : List ℕ) (o : Opened) (a : Accepted ≡ opening f) (e : o ≡ found f) where
+module _ (f : List ℕ) (o : Opened) (open_as : Ok o ≡ opened f) where
+  abbrev a : Accepted ≡ opening f
+  a = opens f o open_as
+
+  abbrev e : o ≡ found f
+  e = found_is f o open_as
+
+  pub counted : o.bodies ≡ body_count f
+  counted = ap (λ x. x.bodies) e
+
   pub array_at : (k : ℕ) → k < o.arrays → Entry o.array_starts k
   array_at k h =
       let w = (opened_facts f a).bounds in

@@ -1,8 +1,7 @@
 -- The run that a log tells, one entry on: past a record, into an arm or a turn; or refused at the entry.
 use Prim.Native.Nat.{ℕ, ◌+◌, ◌/◌, ◌≤◌, ◌<◌}
 use mathlib.Core.Path.{◌≡◌, refl, sym, ap, ◌∙◌}
-use mathlib.Core.Bool.{Bool, true, false, cond, not, ◌&&◌, ◌||◌, true≢false}
-use mathlib.Core.Logic.{inl, inr}
+use mathlib.Core.Bool.{Bool, true, false, cond, not, ◌&&◌, true≢false}
 use mathlib.Core.List.{List, [], ◌∷◌, ◌++◌}
 use mathlib.Core.Option.{Option, none, some}
 use native.Mathlib.Decide.{dec_lt}
@@ -12,13 +11,13 @@ use lib.Dec.{eqb, ltb}
 use lib.ListN.{length, get_or, take, replicate, length-replicate}
 use lib.Seq.{take-suc}
 use borrow.Author.Tests.{eq-eqb, eqb-true, eqb-false, lt-ltb, ltb-true}
-use Rattle.model.specs.declared.Verdict.TheVariants.{Refused}
+use Rattle.model.specs.Verdicts.{Refused}
 use Rattle.model.specs.Sides.{Layout, cell_count, span_of}
 use Rattle.model.specs.Records.{Action, stepped}
 use Rattle.model.specs.Effects.{State, start, effect}
 use Rattle.model.specs.Blocks.{Block}
 use Rattle.model.specs.Runs.{Event, Config, Ending, proper, carried_on, Step, step, stopped, lowest_unmet, begin, here}
-use Rattle.model.proofs.Booleans.{and_in, and_out, or_out}
+use Rattle.model.proofs.Booleans.{and_in, and_out}
 use Rattle.model.proofs.Runs.{config, event, next_same}
 use Rattle.model.proofs.Stamps.{Past, past, past_effect}
 use Rattle.reading.specs.declared.Fields.{Fields}
@@ -28,7 +27,7 @@ use Rattle.reading.proofs.Tables.{length_table, getD_table}
 use Rattle.rules.specs.Rules.{fields_fit}
 use Rattle.format.specs.Plans.{action_of, plan_of}
 use Rattle.format.specs.Inner.Walks.{Plain, Starts}
-use Rattle.format.proofs.Walking.{opened_facts}
+use Rattle.format.proofs.Walking.{opens, opened_facts}
 use Rattle.format.proofs.Trees.{is_branch, is_loop, is_fixed, is_leaf, shape, acts}
 use Rattle.memories.specs.Inner.Ranges.{Room}
 use Rattle.places.specs.declared.Place.{Place}
@@ -268,14 +267,14 @@ module _ (f entries : List ℕ) (bodies : ℕ) (m : Trail) (cells : List ℕ) (i
   goes : {m' : Trail} {cells' : List ℕ} → m'.number ≡ 0 → At f entries bodies m' cells' (i + 1) → Followed f entries bodies m' cells' i
   goes z w = record { goes_on = λ _. w; ends = λ nay. absurd (nay z) }
 
-  pub followed_30 : (m.place.at ≡ number → m.place.at < m.place.end → ⊥) → (m' : Trail) → m' ≡ refused_with m 30 → Followed f entries bodies m' cells i
-  followed_30 nay m' q = rw q (record { goes_on = λ z. absurd (omega arith); ends = λ _. refuse_30 nay })
+  pub followed_30 : (m.place.at ≡ number → m.place.at < m.place.end → ⊥) → Followed f entries bodies (refused_with m.place.room 30) cells i
+  followed_30 nay = record { goes_on = λ z. absurd (omega arith); ends = λ _. refuse_30 nay }
 
   module _ (h : m.place.at < m.place.end) (same : m.place.at ≡ number) (x : Fields) (e : x ≡ fields_at f m.place.at) where
     pub followed_led : 6 ≤ x.kind → (next : ℕ) → (i + 1 < length entries → next ≡ get_or entries (i + 1) 0) → (p : Spot) → p ≡ led_by (unused m.place) x next → Followed f entries bodies (moved_to p) cells i
     followed_led y next given p q = rw q (goes refl (led_on (unused m.place) (a.left ∙ sym (unused_left f m.place)) (unused_placed a.placed) h same x e y next given a.starts))
 
-    pub followed_act : x.kind ≤ 5 → (b : Bool) (cells' : List ℕ) → Tracks layout (action_of x) k.state b cells' → (m' : Trail) → m' ≡ after_act m b → Followed f entries bodies m' cells' i
+    pub followed_act : x.kind ≤ 5 → (b : Bool) (cells' : List ℕ) → Tracks layout (action_of x) k.state b cells' → (m' : Trail) → m' ≡ after_act m.place b → Followed f entries bodies m' cells' i
     followed_act y true cells' w m' q = let u = w.stops refl in rw q (record { goes_on = λ z. absurd (omega arith); ends = λ _. stuck_at m.place a.left a.placed h same x e y u.0 u.1 })
     followed_act y false cells' w m' q = let u = w.goes refl in rw q (goes refl (acted m.place a.left a.placed h same x e y cells' a.starts u.0 u.1))
 
@@ -316,13 +315,6 @@ module _ (f : List ℕ) (bodies : ℕ) (plain : Plain f bodies) (p : Spot) (plac
     ready_to_track {σ} {cells} s =
         let i = inside f bodies plain x fit kinds first next first_is next_cell_is in
         ((kinds.0, y, there_array.0), record { order = i.0; inside = omega (arith, i.1, s.room) })
-
--- the place is not before a record whose number the entry is
-pub off_place : (at end e number : ℕ) → (eqb at end || not (eqb at e)) ≡ true → e ≡ number → at ≡ number → at < end → ⊥
-off_place at end e number t q z l = elim (or_out (eqb at end) (not (eqb at e)) t) [
-  | inl u ↦ let w = eqb-true at end u in omega arith
-  | inr u ↦ true≢false (sym u ∙ rw (eq-eqb at e (z ∙ sym q)) refl)
-]
 
 -- before a record with arms leads
 pub ready_to_lead : (f : List ℕ) (bodies : ℕ) (plain : Plain f bodies) (p : Spot) (placed : Placed f p) (h : p.at < p.end) (x : Fields) (e : x ≡ fields_at f p.at) → 6 ≤ x.kind →
@@ -383,7 +375,7 @@ at_first f l bodies plain room size starts fresh cells listed records e p q =
 module _ (f : List ℕ) (o : Opened) (w : Opens f o) where
   -- no plan has more cells
   pub cells_room : (cells : List ℕ) → 4096 ≤ length cells → cell_count (layout_of f) ≤ length cells
-  cells_room cells enough = omega (arith, (opened_facts f w.opens).bounds.cells_below)
+  cells_room cells enough = omega (arith, (opened_facts f (opens f o w.found)).bounds.cells_below)
 
   -- enough for a run of no choices, whose laws say what was found
   abbrev none_yet : List ℕ
@@ -393,7 +385,7 @@ module _ (f : List ℕ) (o : Opened) (w : Opens f o) where
   ready =
       let n = cell_count (layout_of f) in
       let enough : n ≤ length none_yet = omega (arith, length-replicate {A = ℕ} n 0) in
-      record { found = w.found; opens = w.opens; plain = w.plain; own_room = enough; others_room = enough; latest_room = enough; few = omega arith }
+      record { found = w.found; plain = w.plain; own_room = enough; others_room = enough; latest_room = enough; few = omega arith }
 
   pub opens_counted : Counted f o.arrays
   opens_counted = ready_arrays f o _ _ _ _ ready o.arrays refl

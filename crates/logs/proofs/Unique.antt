@@ -9,13 +9,12 @@ use native.Mathlib.Omega.{arith}
 use lib.Dec.{eqb}
 use lib.ListN.{length, get_or, take}
 use lib.Seq.{take-suc, take_all}
-use Rattle.model.specs.declared.Verdict.{Verdict}
-use Rattle.model.specs.declared.Verdict.TheVariants.{Accepted}
+use Rattle.model.specs.Verdicts.{Verdict, Accepted, accepted}
+use Rattle.std.specs.Prelude.{Ok, Err}
 use Rattle.model.specs.Sides.{Layout}
 use Rattle.model.specs.Records.{Action}
 use Rattle.model.specs.Effects.{State, effect}
 use Rattle.model.specs.Blocks.{Block, Plan}
-use Rattle.model.specs.Verdicts.{accepted}
 use Rattle.model.specs.Rows.{answer_of}
 use Rattle.model.specs.Runs.{Event, Config, Manner, proper, carried_on, Step, step, stopped, stop_or, lowest_unmet, begin}
 use Rattle.model.proofs.Runs.{config, event}
@@ -118,9 +117,8 @@ module _ (plan : Plan) (log : List ℕ) where
     one_finding (stuck i) (stuck j) p q = ap stuck (apart i j (λ h. past_stuck i j p h (omega (arith, q.inside)) q.before) (λ h. past_stuck j i q h (omega (arith, p.inside)) p.before))
 
 accepted_is : (v : Verdict) → accepted v ≡ true → Accepted ≡ v
-accepted_is Verdict.Accepted e = refl
-accepted_is (Verdict.Stopped r c) e = absurd (true≢false (sym e))
-accepted_is (Verdict.Refused n p) e = absurd (true≢false (sym e))
+accepted_is (Ok _) e = refl
+accepted_is (Err fault) e = absurd (true≢false (sym e))
 
 pub one_answer : ClaimAnswer
 unfolding Answers

@@ -1,6 +1,6 @@
 -- What is proved of logs, besides the contract of `log`.
 use Rattle.std.specs.Prelude.{ℕ, ◌≡◌, Bool, List, ◌↔◌}
-use Rattle.model.specs.declared.Verdict.TheVariants.{Accepted}
+use Rattle.model.specs.Verdicts.{Accepted}
 use Rattle.model.specs.Blocks.{Plan}
 use Rattle.model.specs.Check as check
 use Rattle.model.specs.Runs.{Config, Manner, Run, begin}

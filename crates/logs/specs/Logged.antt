@@ -1,8 +1,6 @@
 -- The answer to a plan file and a log of any bytes (document 02, request i).
 use Rattle.std.specs.Prelude.{ℕ, ◌*◌, ◌/◌, ◌%◌, ◌≡◌, Bool, cond, not, List, [], ◌∷◌, ◌++◌, eqb, length}
-use Rattle.model.specs.declared.Verdict.{Verdict}
-use Rattle.model.specs.declared.Verdict.TheVariants.{Accepted, Refused}
-use Rattle.model.specs.Verdicts.{accepted}
+use Rattle.model.specs.Verdicts.{Verdict, Accepted, Refused, accepted}
 use Rattle.model.specs.Rows.{Row, row, answer_of}
 use Rattle.reading.specs.Bytes.{u16_at, is_plain, table}
 use Rattle.format.specs.Opening.{open_rows}

@@ -1,17 +1,19 @@
 // What the router really did: a log of record numbers, held against a plain plan.
 #![tactic(auto)]
 
-ghost use Rattle.std.specs.Prelude.{◌≡◌, List, [], ◌∷◌, ℕ, ◌+◌, ◌/◌, ◌^◌, ◌≤◌, ◌<◌, length};
+ghost use Rattle.std.specs.Prelude.{◌≡◌, Ok, List, [], ◌∷◌, ℕ, ◌+◌, ◌/◌, ◌^◌, ◌≤◌, ◌<◌, length};
 ghost use Rattle.model.specs.Rows.{answer_of};
+ghost use Rattle.model.specs.Verdicts.{where_accepted};
+ghost use Rattle.contents.specs.Found.{found};
 ghost use Rattle.reading.specs.Bytes.{first_arm, second_arm};
 ghost use Rattle.format.specs.Opening.{opened};
 ghost use Rattle.places.specs.Inner.Places.{spot, begun_at};
 ghost use Rattle.logs.specs.Logged.{entries_of, log_rows, unplaced, Says, Answers};
-ghost use Rattle.logs.specs.Inner.Following.{unused, Ahead, told_by, led_by, trail, refused_with, after_act, Comes, Followed, HaveLed, Underway, LedOn, Opens};
+ghost use Rattle.logs.specs.Inner.Following.{number_of, unused, Ahead, told_by, led_by, trail, moved_to, after_act, Comes, Followed, HaveLed, Underway, LedOn, staged, Opens};
 
 use contents::Opened;
-use model::Verdict;
-use places::{Place, ROOM, choose, first_place, settle, turn};
+use model::{Fault, Verdict};
+use places::{Place, ROOM};
 use reading::kinds::{BRANCH, CELLS, FIXED, PLAIN};
 use reading::{Fields, first_arm, number_at, record_at, second_arm};
 use standing::past;
@@ -25,20 +27,44 @@ pub struct Logged {
     pub entry: u64,
 }
 
-// Where the run that a log tells stands; the number of the last entry's refusal, 0 while the log goes on.
+// Why an entry is refused.
 #[derive(Clone, Copy)]
-pub struct Point {
-    pub place: Place,
-    pub number: u8,
+pub enum Refusal {
+    // No run goes on with it.
+    NoRun,
+    // Its record is stuck.
+    Stops,
 }
 
-// What is known of the entries of a log that are read, `read` of them. All but the last are followed; that one waits for the next, which tells the choice where it is a test. At a refusal
-// the refused entry is the last.
+impl Refusal {
+    // Its number.
+    fn number(self) -> u8
+        ensures { result ≡ number_of self }
+    {
+        match self {
+            Refusal::NoRun => 30,
+            Refusal::Stops => 31,
+        }
+    }
+}
+
+// Where the entries of a log that are read, `read` of them, have led: where the run that they tell stands, with the status of each cell and the room of its places. All but the last
+// are followed; that one waits for the next, which tells the choice where it is a test. At a refusal the refused entry is the last.
 #[derive(Clone, Copy)]
-pub struct Held {
-    pub point: Point,
-    pub waiting: usize,
+pub struct Stage {
+    pub place: Result<Place, Refusal>,
+    pub waiting: Option<usize>,
     pub read: u64,
+    pub cells: [u8; CELLS],
+    pub room: [u16; ROOM],
+}
+
+// What changes at each entry beside the cells and the room: a value of its own while a part is followed, since reading the stage and writing it at each entry is slower.
+#[derive(Clone, Copy)]
+struct Held {
+    place: Result<Place, Refusal>,
+    waiting: Option<usize>,
+    read: u64,
 }
 
 // An answer that names no entry.
@@ -87,7 +113,7 @@ fn ahead(p: Place, x: Fields, room: &[u16]) -> Place
         depth: p.depth,
         used: 1,
     };
-    settle(after, room)
+    after.settle(room)
 }
 
 // The choice that the next entry tells. Where neither choice leads to its record, that entry is refused after this one.
@@ -96,7 +122,7 @@ fn choice_told(p: Place, x: Fields, next: usize, room: &[u16]) -> u8
     ensures { result ≡ told_by (spot p room.now) x next }
 {
     let q = ahead(p, x, room);
-    if (q.at == next) & (q.at < q.end) {
+    if q.at == next && q.at < q.end {
         return 1;
     }
     0
@@ -108,107 +134,86 @@ fn lead(p: Place, x: Fields, next: usize, room: &mut [u16]) -> Place
     ensures { spot result room.new ≡ led_by (spot p room.old) x next }
 {
     if x.kind == FIXED {
-        let t = turn(p, x, room);
-        return settle(t, room);
+        let t = p.turn(x, room);
+        return t.settle(room);
     }
     let c = choice_told(p, x, next, room);
-    let q = choose(p, x, c, room);
-    settle(q, room)
-}
-
-// The entry is refused with this number.
-fn refused(m: Point, number: u8) -> Point
-    ensures { (room : List ℕ) → trail result room ≡ refused_with (trail m room) number }
-{
-    let p = m.place;
-    Point {
-        place: p,
-        number: number,
-    }
+    let q = p.choose(x, c, room);
+    q.settle(room)
 }
 
 // Where the run stands after a record without arms: past it, or stuck at it.
-fn after(m: Point, stuck: bool, room: &[u16]) -> Point
-    requires { (m.place.at < 1024) × (m.place.depth ≤ 16) × (length room.now ≡ 81) }
-    ensures { trail result room.now ≡ after_act (trail m room.now) stuck }
+fn after(p: Place, stuck: bool, room: &[u16]) -> Result<Place, Refusal>
+    requires { (p.at < 1024) × (p.depth ≤ 16) × (length room.now ≡ 81) }
+    ensures { trail result room.now ≡ after_act (spot p room.now) stuck }
 {
     if stuck {
-        return refused(m, 31);
+        return Err(Refusal::Stops);
     }
-    Point {
-        place: settle(past(m.place), room),
-        number: 0,
-    }
+    Ok(past(p).settle(room))
 }
 
 // The entry `this` is held against the record that comes next, where the entry after it is `next`. `cells` has the status of each cell.
 fn follow_entry(
-    m: Point,
+    p: Place,
     plan: &[u8],
     bodies: usize,
     this: usize,
     next: usize,
     cells: &mut [u8],
     room: &mut [u16],
-) -> Point
-    requires { (l : List ℕ) × (i : ℕ) × Comes plan.now l bodies (trail m room.old) cells.old i this next }
-    ensures followed { (l : List ℕ) (i : ℕ) → Comes plan.now l bodies (trail m room.old) cells.old i this next → Followed plan.now l bodies (trail result room.new) cells.new i }
+) -> Result<Place, Refusal>
+    requires { (l : List ℕ) × (i : ℕ) × Comes plan.now l bodies (moved_to (spot p room.old)) cells.old i this next }
+    ensures followed { (l : List ℕ) (i : ℕ) → Comes plan.now l bodies (moved_to (spot p room.old)) cells.old i this next → Followed plan.now l bodies (trail result room.new) cells.new i }
 {
-    let p = m.place;
-    if (p.at == p.end) | (p.at != this) {
-        return refused(m, 30);
+    if p.at == p.end || p.at != this {
+        return Err(Refusal::NoRun);
     }
     let x = record_at(plan, bodies, p.at);
     if BRANCH <= x.kind {
-        return Point {
-            place: lead(unused(p), x, next, room),
-            number: 0,
-        };
+        return Ok(lead(unused(p), x, next, room));
     }
+    // `as`, as usize::from loses that the index is the array.
     let a = x.array as usize;
     let first = room[a];
     let after_last = room[a + 1];
     let stuck = track(x, first, after_last, cells);
-    after(m, stuck, room)
+    after(p, stuck, room)
 }
 
-// One entry more is read: the one that waited is held against the plan.
+// One entry more is read: the one that waited is held against the plan, where the run stands at p.
 fn follow_next(
     h: Held,
+    p: Place,
     plan: &[u8],
     bodies: usize,
     next: usize,
     cells: &mut [u8],
     room: &mut [u16],
 ) -> Held
-    requires { Underway plan.now bodies h room.old cells.old × (h.point.number ≡ 0) × (h.read + 1 < 2 ^ 64) }
-    ensures { LedOn plan.now bodies (next ∷ []) h room.old cells.old result room.new cells.new }
+    requires { Underway plan.now bodies (staged h cells.old room.old) × (h.place ≡ Ok p) × (h.read + 1 < 2 ^ 64) }
+    ensures { LedOn plan.now bodies (next ∷ []) (staged h cells.old room.old) (staged result cells.new room.new) }
 {
-    let m = h.point;
-    if h.read == 0 {
+    let Some(this) = h.waiting else {
         return Held {
-            point: m,
-            waiting: next,
-            read: 1,
+            waiting: Some(next),
+            read: h.read + 1,
+            ..h
+        };
+    };
+    let place = follow_entry(p, plan, bodies, this, next, cells, room);
+    if place.is_ok() {
+        return Held {
+            place,
+            waiting: Some(next),
+            read: h.read + 1,
         };
     }
-    let n = follow_entry(m, plan, bodies, h.waiting, next, cells, room);
-    if n.number != 0 {
-        return Held {
-            point: n,
-            waiting: h.waiting,
-            read: h.read,
-        };
-    }
-    Held {
-        point: n,
-        waiting: next,
-        read: h.read + 1,
-    }
+    Held { place, ..h }
 }
 
 // The entries of a part of a log, one after another, up to the first that is refused.
-pub fn follow(
+fn follow_part(
     h: Held,
     plan: &[u8],
     bodies: usize,
@@ -216,105 +221,110 @@ pub fn follow(
     cells: &mut [u8],
     room: &mut [u16],
 ) -> Held
-    requires { Underway plan.now bodies h room.old cells.old × (h.read + length part.now / 2 < 2 ^ 64) }
-    ensures { LedOn plan.now bodies (entries_of part.now) h room.old cells.old result room.new cells.new }
+    requires { Underway plan.now bodies (staged h cells.old room.old) × (h.read + length part.now / 2 < 2 ^ 64) }
+    ensures { LedOn plan.now bodies (entries_of part.now) (staged h cells.old room.old) (staged result cells.new room.new) }
 {
-    let entries = part.len() / 2;
     let mut n = h;
-    let mut i = 0usize;
-    while i < entries {
-        let m = n.point;
-        if m.number != 0 {
+    for i in 0..part.len() / 2 {
+        let Ok(p) = n.place else {
             return n;
-        }
-        n = follow_next(
-            n,
-            plan,
-            bodies,
-            number_at(part, 2 * i) as usize,
-            cells,
-            room,
-        );
-        i += 1;
+        };
+        let next = usize::from(number_at(part, 2 * i));
+        n = follow_next(n, p, plan, bodies, next, cells, room);
     }
     n
 }
 
-// What is said of the entries that are read. One more, whichever it is, has the last of them held against the plan.
-pub fn conclude(h: Held, plan: &[u8], bodies: usize, cells: &mut [u8], room: &mut [u16]) -> Logged
-    requires { Underway plan.now bodies h room.old cells.old × (h.read + 1 < 2 ^ 64) }
-    ensures { (l : List ℕ) → HaveLed plan.now l bodies h room.old cells.old → Says plan.now l result }
-{
-    let n = follow(h, plan, bodies, &[0u8; 2], cells, room);
-    let m = n.point;
-    if m.number != 0 {
-        return Logged {
-            verdict: Verdict::Refused(m.number, 0),
-            entry: n.read - 1,
+impl Stage {
+    // Before the first entry of a log that is held against a plain plan. No plan has more cells.
+    pub fn first(plan: &[u8], o: Opened) -> Stage
+        requires { Opens plan.now o }
+        ensures led { HaveLed plan.now [] o.offset result }
+        ensures underway { Underway plan.now o.offset result × (result.read ≡ 0) }
+    {
+        let starts = o.array_starts;
+        let mut cells = [0u8; CELLS];
+        let mut room = [0u16; ROOM];
+        put_starts(&starts, &mut room);
+        write_statuses(plan, usize::from(o.arrays), &mut cells);
+        Stage {
+            place: Ok(Place::first(o.records)),
+            waiting: None,
+            read: 0,
+            cells,
+            room,
+        }
+    }
+
+    // The entries of a part of a log, one after another, up to the first that is refused.
+    pub fn follow(&mut self, plan: &[u8], bodies: usize, part: &[u8])
+        requires { Underway plan.now bodies self.old × (self.old.read + length part.now / 2 < 2 ^ 64) }
+        ensures led { LedOn plan.now bodies (entries_of part.now) self.old self.new }
+        ensures underway { Underway plan.now bodies self.new × (self.new.read ≤ self.old.read + length part.now / 2) }
+    {
+        let h = Held {
+            place: self.place,
+            waiting: self.waiting,
+            read: self.read,
         };
+        let n = follow_part(h, plan, bodies, part, &mut self.cells, &mut self.room);
+        self.place = n.place;
+        self.waiting = n.waiting;
+        self.read = n.read;
     }
-    unplaced(Verdict::Accepted)
+
+    // What is said of the entries that are read. One more, whichever it is, has the last of them held against the plan.
+    pub fn conclude(self, plan: &[u8], bodies: usize) -> Logged
+        requires { Underway plan.now bodies self × (self.read + 1 < 2 ^ 64) }
+        ensures { (l : List ℕ) → HaveLed plan.now l bodies self → Says plan.now l result }
+    {
+        let mut n = self;
+        n.follow(plan, bodies, &[0u8; 2]);
+        match n.place {
+            Ok(_) => unplaced(Ok(())),
+            Err(refusal) => Logged {
+                verdict: Err(Fault::Refused(refusal.number(), 0)),
+                entry: n.read - 1,
+            },
+        }
+    }
 }
 
-// Before the first entry. The status of each cell is written; the room is empty.
-pub fn begin(plan: &[u8], o: Opened, cells: &mut [u8], room: &mut [u16]) -> Held
-    requires { Opens plan.now o × (4096 ≤ length cells.old) × (length room.old ≡ 81) × ((d : ℕ) → begun_at room.old d ≡ 0) }
-    ensures { HaveLed plan.now [] o.offset result room.new cells.new × (result.read ≡ 0) }
-{
-    let starts = o.array_starts;
-    put_starts(&starts, room);
-    write_statuses(plan, o.arrays as usize, cells);
-    let m = Point {
-        place: first_place(o.records),
-        number: 0,
-    };
-    Held {
-        point: m,
-        waiting: 0,
-        read: 0,
-    }
-}
-
-// A log held against an opened plain plan, with the status of each cell in a list of its own: no plan has more cells.
+// A log held against an opened plain plan.
 fn hold(plan: &[u8], o: Opened, log: &[u8]) -> Logged
     requires { Opens plan.now o }
     ensures { Says plan.now (entries_of log.now) result }
 {
-    let mut cells = [0u8; CELLS];
-    let mut room = [0u16; ROOM];
-    let bodies = o.offset as usize;
-    let h = begin(plan, o, &mut cells, &mut room);
-    let n = follow(h, plan, bodies, log, &mut cells, &mut room);
-    conclude(n, plan, bodies, &mut cells, &mut room)
+    let bodies = usize::from(o.offset);
+    let mut stage = Stage::first(plan, o);
+    stage.follow(plan, bodies, log);
+    stage.conclude(plan, bodies)
 }
 
-// The answer to a log of which nothing is known but whether its length is odd; accepted where it is to be followed.
-pub fn refused_before(o: Opened, odd: bool) -> Verdict
-    ensures { (f : List ℕ) → o ≡ opened f → result ≡ answer_of (log_rows f odd) }
+// The plain plan over which a log is followed, of which nothing is known but whether its length is odd; or why it is not.
+#[tactic(auto, using(crate::proofs::Rows::rows_unopened, crate::proofs::Rows::rows_declared, crate::proofs::Rows::rows_odd, crate::proofs::Rows::rows_none))]
+pub fn plan_to_follow(o: Result<Opened, Fault>, odd: bool) -> Result<Opened, Fault>
+    ensures { (f : List ℕ) → o ≡ opened f → result ≡ where_accepted (answer_of (log_rows f odd)) (found f) }
 {
-    let v = o.verdict;
-    let Verdict::Accepted = v else {
-        return v;
-    };
+    let o = o?;
     if o.kind != PLAIN {
-        return Verdict::Refused(11, 0);
+        return Err(Fault::Refused(11, 0));
     }
     if odd {
-        return Verdict::Refused(29, 0);
+        return Err(Fault::Refused(29, 0));
     }
-    Verdict::Accepted
+    Ok(o)
 }
 
 // A log held against a plan file that opening has found to be o.
-pub fn log_opened(plan: &[u8], o: Opened, log: &[u8]) -> Logged
+pub fn log_opened(plan: &[u8], o: Result<Opened, Fault>, log: &[u8]) -> Logged
     requires { o ≡ opened plan.now }
     ensures { Answers plan.now log.now result }
 {
-    let v = refused_before(o, log.len() % 2 == 1);
-    let Verdict::Accepted = v else {
-        return unplaced(v);
-    };
-    hold(plan, o, log)
+    match plan_to_follow(o, log.len() % 2 == 1) {
+        Ok(o) => hold(plan, o, log),
+        Err(fault) => unplaced(Err(fault)),
+    }
 }
 
 // A log of any bytes held against a plan file of any bytes.

@@ -3,83 +3,80 @@
 
 ghost use Rattle.std.specs.Prelude.{◌≡◌, ◌<◌};
 ghost use Rattle.model.specs.Records.{distance, stepped};
-ghost use Rattle.reading.specs.Bytes.{record_count};
-ghost use Rattle.format.specs.Inner.Walks.{Plain};
-ghost use Rattle.lookahead.specs.Inner.Ahead.{covers, nearest, Spare, Ahead};
+ghost use Rattle.reading.specs.Bytes.{record_count, fields_at};
+ghost use Rattle.lookahead.specs.Inner.Ahead.{covers, nearest, IsPlain, Spare, Ahead};
 
 use model::Array;
 use reading::kinds::{BRANCH, NEED};
 use reading::{Fields, first_arm, record_at, second_arm};
 
-// Stands for no record in the table.
-pub const NOWHERE: usize = 65535;
+// An opened plain plan: its file, where its bodies begin, and how many records it has.
+#[derive(Clone, Copy)]
+pub struct PlainPlan<'a> {
+    pub file: &'a [u8],
+    pub bodies: usize,
+    pub records: usize,
+}
+
+impl<'a> PlainPlan<'a> {
+    // The fields of record r.
+    pub fn record(&self, r: usize) -> Fields
+        requires { IsPlain self.now × (r < record_count self.now.file.now) }
+        ensures { result ≡ fields_at self.now.file.now r }
+    {
+        record_at(self.file, self.bodies, r)
+    }
+}
 
 // Whether a record's step leads from P to `offset`, below Q.
 fn steps_on(x: Fields, offset: usize) -> bool
     ensures { result ≡ stepped (distance x.step) x.p x.q offset }
 {
     let p = x.p as usize;
-    if offset < p {
-        return false;
-    }
-    if x.q as usize <= offset {
-        return false;
-    }
-    if x.step <= 1 {
-        return true;
-    }
     // In 32 bits: a remainder of 64 bits takes several times as long.
-    ((offset - p) as u32) % (x.step as u32) == 0
+    p <= offset
+        && offset < x.q as usize
+        && (x.step <= 1 || ((offset - p) as u32) % (x.step as u32) == 0)
 }
 
-// Whether a record of kind 1 to 5 covers cell `offset` of an array.
-fn covers(x: Fields, array: Array, offset: usize) -> bool
-    ensures { result ≡ covers x array.0 offset }
-{
-    if array.0 != x.array as u16 {
-        return false;
-    }
-    if NEED <= x.kind {
-        return true;
-    }
-    steps_on(x, offset)
+// A cell, by its array and its place there.
+#[derive(Clone, Copy)]
+pub struct Spot {
+    pub array: Array,
+    pub offset: usize,
 }
 
-// The first record from r on that concerns the cell, where `next` is the first one after r.
-fn nearest(x: Fields, array: Array, offset: usize, r: usize, next: usize) -> usize
-    requires { r < 65536 }
-    ensures { result ≡ nearest x array.0 offset r next }
-{
-    if BRANCH <= x.kind {
-        if next < r + 1 + first_arm(x) + second_arm(x) {
-            return r;
+impl Spot {
+    // Whether a record of kind 1 to 5 covers the cell.
+    #[tactic(auto, unfolding(crate::specs::Inner::Ahead::covers))]
+    fn is_covered(self, x: Fields) -> bool
+        ensures { result ≡ covers x self.array.0 self.offset }
+    {
+        self.array.0 == x.array as u16 && (NEED <= x.kind || steps_on(x, self.offset))
+    }
+
+    // The first record from r on that concerns the cell, where `next` is the first one after r.
+    fn nearest(self, x: Fields, r: usize, next: usize) -> usize
+        requires { r < 65536 }
+        ensures { result ≡ nearest x self.array.0 self.offset r next }
+    {
+        let concerns = if BRANCH <= x.kind {
+            next < r + 1 + first_arm(x) + second_arm(x)
+        } else {
+            self.is_covered(x)
+        };
+        if concerns { r } else { next }
+    }
+
+    // Fills in the table for the cell, from the last record to the first. Where no record is left that concerns it, the entry is the number of the records.
+    pub fn look_ahead(self, plan: PlainPlan<'_>, ahead: &mut [usize])
+        requires { IsPlain plan × Spare plan.file.now ahead.old }
+        ensures { Ahead plan.entry.file.now self.array.0 self.offset 0 ahead.new }
+    {
+        let mut next = plan.records;
+        for r in (0..plan.records).rev() {
+            next = self.nearest(plan.record(r), r, next);
+            ahead[r] = next;
         }
-        return next;
-    }
-    if covers(x, array, offset) {
-        return r;
-    }
-    next
-}
-
-// Fills in the table for cell `offset` of an array, from the last record to the first.
-pub fn look_ahead(
-    plan: &[u8],
-    bodies: usize,
-    records: usize,
-    array: Array,
-    offset: usize,
-    ahead: &mut [usize],
-)
-    requires { Plain plan.now bodies × (records ≡ record_count plan.now) × Spare plan.now ahead.old }
-    ensures { Ahead plan.now array.0 offset 0 ahead.new }
-{
-    let mut next = NOWHERE;
-    let mut r = records;
-    while 0 < r {
-        r -= 1;
-        let x = record_at(plan, bodies, r);
-        next = nearest(x, array, offset, r, next);
-        ahead[r] = next;
     }
 }

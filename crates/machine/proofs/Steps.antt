@@ -11,8 +11,7 @@ use lib.ListN.{length, get_or, drop}
 use lib.Seq.{drop-cons, drop-length}
 use borrow.Author.Tests.{eqb-true, eqb-false}
 use Rattle.model.specs.declared.Cell.{Cell}
-use Rattle.model.specs.declared.Verdict.{Verdict}
-use Rattle.model.specs.declared.Verdict.TheVariants.{Accepted, Stopped, Refused}
+use Rattle.model.specs.Verdicts.{Verdict, Accepted, Stopped, Refused}
 use Rattle.model.specs.Sides.{Layout, span_of, host}
 use Rattle.model.specs.Effects.{State, effect}
 use Rattle.model.specs.Records.{Action, distance}
@@ -26,13 +25,12 @@ use Rattle.format.specs.Plans.{action_of, plan_of}
 use Rattle.format.specs.Inner.Walks.{Starts}
 use Rattle.format.proofs.Walking.{opened_facts}
 use Rattle.acts.specs.declared.Stored.{Stored}
-use Rattle.acts.specs.declared.Acted.{Acted}
-use Rattle.acts.specs.declared.Acted.TheVariants.{Done, Unmet}
+use Rattle.std.specs.Prelude.{None, Some, Ok, Err}
 use Rattle.standing.specs.Choices.{choices_of}
 use Rattle.memories.specs.Inner.Ranges.{Same}
-use Rattle.acts.specs.Inner.Acting.{Holds, Acts}
+use Rattle.acts.specs.Inner.Acting.{Acted, Holds, Acts}
 use Rattle.places.specs.Inner.Places.{Spot, settled, chosen, turned, left_of, weight, Placed}
-use Rattle.standing.specs.Inner.Standing.{Runner, stored_with, tally_with, past_record, ended_with, moved_to, after_act, tally_after, tested, turn_begun, led, heavy, measure, next_record, said_of, Stands, StepsAs, Steps, Stood, Reaches}
+use Rattle.standing.specs.Inner.Standing.{Runner, stored_with, past_record, ended_with, moved_to, after_act, tally_after, tested, turn_begun, led, heavy, measure, next_record, said_of, Stands, StepsAs, Steps, Stood, Reaches}
 use Rattle.reading.specs.Inner.Cells.{from_of, to_of}
 use Rattle.machine.proofs.Records.{few_counted, few_moved, renumbered}
 use Rattle.machine.proofs.Ways.{end_left, test_leads, test_spent, turn_leads, number_here, act_left, past_placed, Able, able_here}
@@ -44,7 +42,7 @@ step_at : (layout : Layout) (k : Config) (b : Block Action) (cs : List Bool) →
 step_at layout k b cs e g = λ i. step proper layout (config (e i) (g i) k.state k.history)
 
 -- the laws of a step from where the machine stands
-module _ (f choices : List ℕ) (m : Runner) (own others latest : List ℕ) (t : Tally) (run : m.running ≡ true) (k : Config) (w : Stands f choices m own others latest t k) where
+module _ (f choices : List ℕ) (m : Runner) (own others latest : List ℕ) (t : Tally) (run : m.verdict ≡ None) (k : Config) (w : Stands f choices m own others latest t k) where
   abbrev layout : Layout
   layout = layout_of f
 
@@ -60,8 +58,7 @@ module _ (f choices : List ℕ) (m : Runner) (own others latest : List ℕ) (t :
   unfolding measure
   end_here v e q s = (
     rw s (
-      refl,
-      q,
+      ap Some q,
       record {
         plain = w.plain;
         many = w.many;
@@ -84,7 +81,7 @@ module _ (f choices : List ℕ) (m : Runner) (own others latest : List ℕ) (t :
       step proper layout k ≡ Step.next (config b cs σ l) → left_of f c ≡ b → Placed f c → Starts f c.room → c.used ≤ length choices → cs ≡ choices_of (drop c.used choices) →
       Holds layout host s own' others' latest' σ l → length l + weight (left_of f c) ≤ (c.used + 1) * heavy → (tally layout l).moved ≤ length l * 4096 →
       (length choices - c.used) * heavy + weight (left_of f c) < (length choices - p.used) * heavy + weight (left_of f p) →
-      Stepped (moved_to m (settled c) s.flags s.other_flags s.known) own' others' latest' (tally_with s)
+      Stepped (moved_to m (settled c) s.host_flags s.card_flags s.known) own' others' latest' s.tally
   unfolding measure
   goes c b cs σ l s own' others' latest' number went is placed starts used left held few few_cells less =
       let q = settling f c.depth c refl placed in (
@@ -121,7 +118,7 @@ module _ (f choices : List ℕ) (m : Runner) (own others latest : List ℕ) (t :
   -- a branch or a test takes a choice
   took : (c : Spot) (b : Block Action) → p.used < length choices → p.at ≡ next_record k.left →
       step proper layout k ≡ Step.next (config b (choices_of (drop (suc p.used) choices)) k.state k.history) →
-      left_of f c ≡ b → Placed f c → Starts f c.room → c.used ≡ p.used + 1 → Stepped (moved_to m (settled c) m.flags m.others m.known) own others latest t
+      left_of f c ≡ b → Placed f c → Starts f c.room → c.used ≡ p.used + 1 → Stepped (moved_to m (settled c) m.host_flags m.card_flags m.known) own others latest t
   took c b h number s l placed starts u =
       let light-there = light f few_records c placed in
       goes c b _ k.state k.history (stored_with m t) own others latest number s l placed starts (omega arith) (rw (u, add-one p.used)) w.holds (omega (arith, w.few)) w.few_moved (omega arith)
@@ -166,14 +163,14 @@ module _ (f choices : List ℕ) (m : Runner) (own others latest : List ℕ) (t :
         taken : p.used < length choices → k.choices ≡ not (eqb (get_or choices p.used 0) 0) ∷ choices_of (drop (suc p.used) choices)
         taken u = w.choices_left ∙ ap choices_of (drop-cons choices p.used 0 u)
 
-        led_on : p.used < length choices → Stepped (moved_to m (settled (chosen p x (get_or choices p.used 0))) m.flags m.others m.known) own others latest t
+        led_on : p.used < length choices → Stepped (moved_to m (settled (chosen p x (get_or choices p.used 0))) m.host_flags m.card_flags m.known) own others latest t
         led_on u =
             let byte = get_or choices p.used 0 in
             let after = choices_of (drop (suc p.used) choices) in
             let n = test_leads f m.bodies w.plain p w.placed h x e y nay byte in
             took (chosen p x byte) (left_of f (chosen p x byte)) u number (step_here (not (eqb byte 0) ∷ after) (taken u) ∙ n.goes proper layout after k.state k.history) refl n.placed (n.starts w.starts) n.used
 
-        go : (b : Bool) → eqb p.used (length choices) ≡ b → Stepped (cond b (ended_with m (Refused 22 p.at)) (moved_to m (settled (chosen p x (get_or choices p.used 0))) m.flags m.others m.known)) own others latest t
+        go : (b : Bool) → eqb p.used (length choices) ≡ b → Stepped (cond b (ended_with m (Refused 22 p.at)) (moved_to m (settled (chosen p x (get_or choices p.used 0))) m.host_flags m.card_flags m.known)) own others latest t
         go true u = end_here (Refused 22 p.at) (out_of_choices p.at) refl (step_here [] (spent (eqb-true _ _ u)) ∙ test_spent f m.bodies w.plain p w.placed h x e y nay proper layout k.state k.history)
         go false u = led_on (let n = eqb-false p.used (length choices) u in omega (arith, w.used, n))
 
@@ -197,7 +194,7 @@ module _ (f choices : List ℕ) (m : Runner) (own others latest : List ℕ) (t :
     at_act : x.kind ≤ 5 → (s : Stored) (own' others' latest' : List ℕ) → lowest_unmet layout (action_of x) k.state ≡ none →
         Holds layout host s own' others' latest' (effect layout (action_of x) k.state) (event 0 (action_of x) k.state ∷ k.history) →
         (tally layout (event p.at (action_of x) k.state ∷ k.history)).moved ≤ (tally layout k.history).moved + 4096 →
-        Stepped (moved_to m (settled (past_record p)) s.flags s.other_flags s.known) own' others' latest' (tally_with s)
+        Stepped (moved_to m (settled (past_record p)) s.host_flags s.card_flags s.known) own' others' latest' s.tally
     at_act y s own' others' latest' o held b =
         let lighter : weight (left_of f p) ≡ 1 + weight (left_of f (past_record p)) = ap weight (act_here y) in
         goes (past_record p) _ k.choices _ _ s own' others' latest'
@@ -225,10 +222,10 @@ module _ (f choices : List ℕ) (m : Runner) (own others latest : List ℕ) (t :
 
       -- what the record did is a step of the run, or its end
       pub at_record : (r : Acted) (own' others' latest' : List ℕ) → Acts layout (action_of x) (stored_with m t) own others latest r own' others' latest' → Stepped (after_act m r) own' others' latest' (tally_after t r)
-      at_record (Done s) own' others' latest' acts =
+      at_record (Ok s) own' others' latest' acts =
           let q = acts k.state k.history w.holds in
           at_act y s own' others' latest' q.0 q.1 (few_moved layout (action_of x) (distance x.step) (from_of x first) (to_of x first next) able.spans able.few_cells k.state k.history)
-      at_record (Unmet c) own' others' latest' acts =
+      at_record (Err c) own' others' latest' acts =
           let q = acts k.state k.history w.holds in
           rw (q.1, q.2, q.3) (at_stop y c q.0)
 
@@ -250,4 +247,4 @@ goes_on {f} {choices} {m' = m'} {own'} {others'} {latest'} {t'} w law = go (step
   where
     go : (s : Step) → step proper (layout_of f) w.config ≡ s → StepsAs f choices w.config m' own' others' latest' t' s → Reaches f choices m' own' others' latest' t'
     go (Step.next k) q s = record { config = k; run = onward w.run q; stands = s.2; ended = rw s.0 tt }
-    go (Step.ends e) q s = record { config = w.config; run = w.run; stands = s.2; ended = rw s.0 (record { ending = e; last = q; says = s.1 }) }
+    go (Step.ends e) q s = record { config = w.config; run = w.run; stands = s.1; ended = rw s.0 (record { ending = e; last = q; says = refl }) }

@@ -1,7 +1,7 @@
 // One step of a run.
 #![tactic(auto)]
 
-ghost use Rattle.std.specs.Prelude.{◌≡◌, true, ◌<◌, length};
+ghost use Rattle.std.specs.Prelude.{◌≡◌, ◌<◌, length, None};
 ghost use Rattle.model.specs.Sides.{cell_count};
 ghost use Rattle.reading.specs.Bytes.{layout_of};
 ghost use Rattle.memories.specs.Inner.Ranges.{Same};
@@ -9,10 +9,10 @@ ghost use Rattle.standing.specs.Inner.Standing.{runner, measure, Stood, Steps};
 
 use acts::act;
 use known::is_whole;
-use model::{Tally, Verdict};
+use model::Tally;
 use reading::kinds::BRANCH;
 use reading::{first_cell, next_cell, record_at};
-use standing::{Machine, Stepped, acted_on, after, lead, over, tally_after};
+use standing::{Machine, Stepped, tally_after};
 
 // One step of the definition of a run: a record, a branch, a test of a loop, a turn of a fixed loop, or the end. The tally goes through it by value.
 pub fn step(
@@ -25,17 +25,17 @@ pub fn step(
     room: &mut [u16],
     t: Tally,
 ) -> Stepped
-    requires { (m.running ≡ true) × Stood plan.now choices.now (runner m room.old) host.old card.old latest.old t }
+    requires { (m.verdict ≡ None) × Stood plan.now choices.now (runner m room.old) host.old card.old latest.old t }
     ensures { Steps plan.now choices.now (runner m room.old) host.old card.old latest.old t (runner result.machine room.new) host.new card.new latest.new result.tally × (measure plan.now (length choices.now) (runner result.machine room.new) < measure plan.now (length choices.now) (runner m room.old)) × Same (cell_count (layout_of plan.now)) host.old host.new × Same (cell_count (layout_of plan.now)) card.old card.new × Same (cell_count (layout_of plan.now)) latest.old latest.new }
 {
     let p = m.place;
     if p.at == p.end {
-        return over(m, Verdict::Accepted, t);
+        return m.over(Ok(()), t);
     }
     let x = record_at(plan, m.bodies, p.at);
     if BRANCH <= x.kind {
         return Stepped {
-            machine: lead(m, x, choices, room),
+            machine: m.lead(x, choices, room),
             tally: t,
         };
     }
@@ -45,9 +45,9 @@ pub fn step(
     let from = first_cell(x, first);
     let to = next_cell(x, first, next);
     let whole = is_whole(from, to, first, next);
-    let r = act(x, whole, from, to, acted_on(m, t), host, card, latest);
+    let r = act(x, whole, from, to, m.acted_on(t), host, card, latest);
     Stepped {
-        machine: after(m, r, room),
+        machine: m.after(r, room),
         tally: tally_after(t, r),
     }
 }
@@ -63,7 +63,7 @@ pub fn step_lent(
     room: &mut [u16],
     tally: &mut Tally,
 ) -> Machine
-    requires { (m.running ≡ true) × Stood plan.now choices.now (runner m room.old) host.old card.old latest.old tally.old }
+    requires { (m.verdict ≡ None) × Stood plan.now choices.now (runner m room.old) host.old card.old latest.old tally.old }
     ensures { Steps plan.now choices.now (runner m room.old) host.old card.old latest.old tally.old (runner result room.new) host.new card.new latest.new tally.new × (measure plan.now (length choices.now) (runner result room.new) < measure plan.now (length choices.now) (runner m room.old)) × Same (cell_count (layout_of plan.now)) host.old host.new × Same (cell_count (layout_of plan.now)) card.old card.new × Same (cell_count (layout_of plan.now)) latest.old latest.new }
 {
     let r = step(m, plan, choices, host, card, latest, room, *tally);

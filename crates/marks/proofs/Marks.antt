@@ -5,16 +5,22 @@ use mathlib.Core.List.{List}
 use Prim.Native.Nat.{ℕ, zero, suc, ◌+◌, ◌-◌, ◌≤◌, ◌<◌}
 use native.Nat.{ℕᴺ_discrete}
 use native.Mathlib.Decide.{dec_lt}
-use native.Mathlib.Numerals.{add-one}
 use native.Mathlib.Omega.{arith}
 use lib.Dec.{ltb, eqb}
-use lib.ListN.{length, get_or, set, replicate, length-replicate, length-set}
+use lib.ListN.{length, get_or, set, take, drop, replicate, length-replicate, length-set, length-append, length-take, length-drop}
 use lib.Seq.{get_or-set_same, get_or-set_other}
-use borrow.Author.Tests.{lt-ltb, le-ltb, eq-eqb, ne_eqb}
+use borrow.Rule.Slice.PartMut.{mid_of, put_mid, mid_len}
+use borrow.Author.Tests.{lt-ltb, le-ltb, lt-leb, le-leb, eq-eqb, ne_eqb}
+use Rattle.std.specs.List.{list_all}
+use Rattle.std.proofs.Common.{rules}
+use Rattle.std.proofs.Math.Seq.{drop-cons}
+use Rattle.std.proofs.lemmas.List.{places}
 use Rattle.model.specs.Records.{stepped}
-use Rattle.model.proofs.Numbering.{stepped_first, stepped_next, stepped_none}
+use Rattle.model.proofs.Numbering.{stepped_first, stepped_next, stepped_none, stepped_one}
 use Rattle.reading.specs.declared.Fields.{Fields}
 use Rattle.reading.specs.Inner.Cells.{from_of, to_of, step_of}
+use Rattle.std.specs.Prelude.{Option, None, Some}
+use Rattle.marks.specs.declared.Declaration.{Declaration}
 use Rattle.marks.specs.Inner.Marks.{marked, Adds, all_marked, hits, met}
 
 same_below : (k c : ℕ) → (k ≡ c → ⊥) → ltb k c ≡ ltb k (c + 1)
@@ -87,35 +93,55 @@ module _ (before one two : List Bool) where
   both_all l c h m = record { size = m.size; marks = λ k g. m.marks k g ∙ rw (lt-ltb k c (omega arith)) }
 
 -- the cells of a record with the fields x
-module _ (starts sides : List ℕ) (x : Fields) (before : List Bool) where
-  none : length before ≡ 4096 → ((c : ℕ) → hits starts sides x c ≡ false) → Adds before before (hits starts sides x)
+module _ (starts : List ℕ) (declared : List (Option Declaration)) (x : Fields) (before : List Bool) where
+  none : length before ≡ 4096 → ((c : ℕ) → hits starts declared x c ≡ false) → Adds before before (hits starts declared x)
   none n h = record { size = n; marks = λ c l. sym (rw (h c) (or-false (marked before c))) }
 
-  pub hits_other : length before ≡ 4096 → (x.kind ≡ 2 → ⊥) → Adds before before (hits starts sides x)
+  pub hits_other : length before ≡ 4096 → (x.kind ≡ 2 → ⊥) → Adds before before (hits starts declared x)
   unfolding hits
   hits_other n k = none n (λ c. rw (ne_eqb x.kind 2 k))
 
-  pub hits_side : length before ≡ 4096 → (x.side ≡ get_or sides x.array 0 → ⊥) → Adds before before (hits starts sides x)
+  pub hits_undeclared : length before ≡ 4096 → get_or declared x.array None ≡ None → Adds before before (hits starts declared x)
   unfolding hits
-  hits_side n s = none n (λ c. rw (ne_eqb x.side (get_or sides x.array 0) s) (and-false (eqb x.kind 2)))
+  hits_undeclared n e = none n (λ c. rw e (and-false (eqb x.kind 2)))
 
-  pub hits_write : x.kind ≡ 2 → x.side ≡ get_or sides x.array 0 → (from to : ℕ) → from ≡ from_of x (get_or starts x.array 0) → to ≡ to_of x (get_or starts x.array 0) (get_or starts (x.array + 1) 0) →
-      (step : ℕ) → step ≡ step_of x → (after : List Bool) → Adds before after (stepped step from to) → Adds before after (hits starts sides x)
-  unfolding hits
-  hits_write k s from to a b step e after m = record { size = m.size; marks = λ c l. m.marks c l ∙ rw (a, b, e, eq-eqb x.kind 2 k, eq-eqb x.side (get_or sides x.array 0) s) }
+  module _ (d : Declaration) (e : get_or declared x.array None ≡ Some d) where
+    pub hits_side : length before ≡ 4096 → (x.side ≡ d.side → ⊥) → Adds before before (hits starts declared x)
+    unfolding hits
+    hits_side n s = none n (λ c. rw (e, ne_eqb x.side d.side s) (and-false (eqb x.kind 2)))
 
--- whether all cells from c up to `end` are marked
-module _ (l : List Bool) (c end : ℕ) (h : c < end) where
-  count : end - c ≡ suc (end - (c + 1))
-  count = omega arith
+    pub hits_write : x.kind ≡ 2 → x.side ≡ d.side → (from to : ℕ) → from ≡ from_of x (get_or starts x.array 0) → to ≡ to_of x (get_or starts x.array 0) (get_or starts (x.array + 1) 0) →
+        (step : ℕ) → step ≡ step_of x → (after : List Bool) → Adds before after (stepped step from to) → Adds before after (hits starts declared x)
+    unfolding hits
+    hits_write k s from to a b step t after m = record { size = m.size; marks = λ c l. m.marks c l ∙ rw (e, a, b, t, eq-eqb x.kind 2 k, eq-eqb x.side d.side s) }
 
-  pub all_next : marked l c ≡ true → all_marked l c (end - c) ≡ all_marked l (c + 1) (end - (c + 1))
-  unfolding all_marked
-  all_next e = rw (count, e, add-one)
+-- the cells of a range, marked at once
+module _ (l : List Bool) (size : length l ≡ 4096) (from end : ℕ) where
+  pub range_none : end ≤ from → Adds l l (stepped 1 from end)
+  range_none h = steps_none 1 end from l size h
 
-  pub all_not : marked l c ≡ false → all_marked l c (end - c) ≡ false
-  unfolding all_marked
-  all_not e = rw (count, e)
+  pub range_filled : from < end → end ≤ 4096 → (part : List Bool) → part ≡ replicate (length (mid_of from (end - from) l)) true → Adds l (put_mid from (end - from) l part) (stepped 1 from end)
+  unfolding marked
+  range_filled h low part e =
+      let n : length (mid_of from (end - from) l) ≡ end - from = mid_len from end l (omega arith) in
+      rw (e, n) (record {
+        size = simp (length-append, length-take, length-replicate, length-drop) (omega arith);
+        marks = λ c g. rw (stepped_one from end c) (elim (dec_lt c from) [
+          | yes u ↦ rw (lt-leb from c u, or-false (get_or l c false)) (search (rules, places))
+          | no u ↦ elim (dec_lt c end) [
+            | yes v ↦ rw (le-leb from c (omega arith), lt-ltb c end v, or-true (get_or l c false)) (search (rules, places))
+            | no v ↦ rw (le-leb from c (omega arith), le-ltb c end (omega arith), or-false (get_or l c false)) (search (rules, places))
+          ]
+        ]);
+      })
+
+-- whether all cells of a part are marked
+pub all_between : (l : List Bool) (c n : ℕ) → c + n ≤ length l → all_marked l c n ≡ list_all (λ b. b) (take n (drop c l))
+unfolding all_marked marked
+all_between l c zero h = refl
+all_between l c (suc n) h =
+    let low : c < length l = omega arith in
+    rw (drop-cons l c false, all_between l (suc c) n (omega arith)) refl
 
 pub all_end : (l : List Bool) (c end : ℕ) → end ≤ c → all_marked l c (end - c) ≡ true
 unfolding all_marked

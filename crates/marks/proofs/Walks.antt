@@ -21,7 +21,9 @@ use Rattle.format.proofs.Walking.{steps}
 use Rattle.format.proofs.Acts.{cells_fit, Arms, arms, acting}
 use Rattle.reading.proofs.Tables.{array_length}
 use Rattle.format.proofs.Trees.{no_nesting, block_none, block_branch, block_loop, block_fixed, block_act}
-use Rattle.marks.specs.Inner.Marks.{marked, Adds, Tables, hits, always}
+use Rattle.std.specs.Prelude.{Option, None, Some}
+use Rattle.marks.specs.declared.Declaration.{Declaration}
+use Rattle.marks.specs.Inner.Marks.{marked, Adds, Tables, on_side, hits, written_by, always}
 
 -- a side, by its number in the file
 pub sides_agree : (s t : ℕ) → s < 2 → t < 2 → same_side (side_of s) (side_of t) ≡ eqb s t
@@ -53,29 +55,51 @@ pub record RecordAt (f : List ℕ) (r end : ℕ) (x : Fields) (i j : ℕ) : Type
 pub arms_of : (f : List ℕ) (r end : ℕ) (x : Fields) (i j : ℕ) → RecordAt f r end x i j → Arms f r end i j
 arms_of f r end x i j h = arms (steps f r end h.less h.walk x h.fields) i j h.one h.two
 
-module _ (f starts sides : List ℕ) (t : Tables f starts sides) where
-  abbrev side_at : ℕ → Side
-  side_at c = side_of (get_or sides (array_of (layout_of f) c) 0)
+module _ (f starts : List ℕ) (declared : List (Option Declaration)) (t : Tables f starts declared) where
+  -- what is declared of the array of a cell
+  abbrev of_cell : ℕ → Option Declaration
+  of_cell c = get_or declared (array_of (layout_of f) c) None
 
-  pub adds_none : (r end : ℕ) → end ≤ r → (l : List Bool) → length l ≡ 4096 → Adds l l (always f sides r end)
+  none_written : (d : Option Declaration) (r end : ℕ) → end ≤ r → (c : ℕ) → written_by f d r end c ≡ false
+  none_written None r end h c = refl
+  none_written (Some d) r end h c = rw (block_none f r end h)
+
+  pub adds_none : (r end : ℕ) → end ≤ r → (l : List Bool) → length l ≡ 4096 → Adds l l (always f declared r end)
   unfolding always
-  adds_none r end h l n = record { size = n; marks = λ c m. sym (rw (block_none f r end h) (or-false (marked l c))) }
+  adds_none r end h l n = record { size = n; marks = λ c m. sym (rw (none_written (of_cell c) r end h c) (or-false (marked l c))) }
 
   module _ (r end : ℕ) (x : Fields) (i j : ℕ) (h : RecordAt f r end x i j) where
-    at_branch : x.kind ≡ 6 → (c : ℕ) → always f sides r end c ≡ ((always f sides (r + 1) (r + 1 + i) c && always f sides (r + 1 + i) (r + 1 + i + j) c) || always f sides (r + 1 + i + j) end c)
-    unfolding always
-    at_branch n c = rw (h.one, h.two, block_branch f r end h.less h.walk x h.fields n)
+    branch_by : (d : Option Declaration) → x.kind ≡ 6 → (c : ℕ) → written_by f d r end c ≡ ((written_by f d (r + 1) (r + 1 + i) c && written_by f d (r + 1 + i) (r + 1 + i + j) c) || written_by f d (r + 1 + i + j) end c)
+    branch_by None n c = refl
+    branch_by (Some d) n c = rw (h.one, h.two, block_branch f r end h.less h.walk x h.fields n)
 
-    at_fixed : x.kind ≡ 9 → (c : ℕ) → always f sides r end c ≡ (always f sides (r + 1) (r + 1 + i) c || always f sides (r + 1 + i + j) end c)
+    at_branch : x.kind ≡ 6 → (c : ℕ) → always f declared r end c ≡ ((always f declared (r + 1) (r + 1 + i) c && always f declared (r + 1 + i) (r + 1 + i + j) c) || always f declared (r + 1 + i + j) end c)
     unfolding always
-    at_fixed n c = rw (h.one, h.two, block_fixed f r end h.less h.walk x h.fields n)
+    at_branch n c = branch_by (of_cell c) n c
 
-    at_other : (x.kind ≡ 6 → ⊥) → (x.kind ≡ 9 → ⊥) → (c : ℕ) → always f sides r end c ≡ (writes_cell (layout_of f) (side_at c) c (action_of x) || always f sides (r + 1 + i + j) end c)
+    fixed_by : (d : Option Declaration) → x.kind ≡ 9 → (c : ℕ) → written_by f d r end c ≡ (written_by f d (r + 1) (r + 1 + i) c || written_by f d (r + 1 + i + j) end c)
+    fixed_by None n c = refl
+    fixed_by (Some d) n c = rw (h.one, h.two, block_fixed f r end h.less h.walk x h.fields n)
+
+    at_fixed : x.kind ≡ 9 → (c : ℕ) → always f declared r end c ≡ (always f declared (r + 1) (r + 1 + i) c || always f declared (r + 1 + i + j) end c)
     unfolding always
-    at_other n k c = elim (ℕᴺ_discrete x.kind 7) [
-      | yes m ↦ rw (h.one, h.two, no_write (layout_of f) (side_at c) c x (λ z. omega arith), block_loop f r end h.less h.walk x h.fields m)
+    at_fixed n c = fixed_by (of_cell c) n c
+
+    -- whether the record itself writes cell c on the side of a declaration
+    abbrev itself : Option Declaration → ℕ → Bool
+    itself None c = false
+    itself (Some d) c = writes_cell (layout_of f) (side_of d.side) c (action_of x)
+
+    other_by : (d : Option Declaration) → (x.kind ≡ 6 → ⊥) → (x.kind ≡ 9 → ⊥) → (c : ℕ) → written_by f d r end c ≡ (itself d c || written_by f d (r + 1 + i + j) end c)
+    other_by None n k c = refl
+    other_by (Some d) n k c = elim (ℕᴺ_discrete x.kind 7) [
+      | yes m ↦ rw (h.one, h.two, no_write (layout_of f) (side_of d.side) c x (λ z. omega arith), block_loop f r end h.less h.walk x h.fields m)
       | no m ↦ rw (h.one, h.two, block_act f r end h.less h.walk x h.fields (no_nesting x n m k))
     ]
+
+    at_other : (x.kind ≡ 6 → ⊥) → (x.kind ≡ 9 → ⊥) → (c : ℕ) → always f declared r end c ≡ (itself (of_cell c) c || always f declared (r + 1 + i + j) end c)
+    unfolding always
+    at_other n k c = other_by (of_cell c) n k c
 
     -- what a write says of its cells
     module _ (k : x.kind ≡ 2) where
@@ -87,34 +111,53 @@ module _ (f starts sides : List ℕ) (t : Tables f starts sides) where
       pub write_fits : (x.array < 32) × (get_or starts x.array 0 + x.q ≤ 4096)
       write_fits = (omega (arith, fits.1, t.arrays_low), rw (t.starts_are x.array (omega (arith, fits.1))) (omega (arith, fits.2, array_ends (layout_of f) x.array, t.cells_low)))
 
-      -- the side for the array of a cell of the record is the side for the record's array
-      write_side : (c : ℕ) (w : Bool) → covers (layout_of f) (acting write x) c ≡ w → (same_side (side_of x.side) (side_at c) && w) ≡ (eqb x.side (get_or sides x.array 0) && w)
-      write_side c false e = and-false (same_side (side_of x.side) (side_at c)) ∙ sym (and-false (eqb x.side (get_or sides x.array 0)))
-      write_side c true e = rw (covers_array (layout_of f) _ c e, sides_agree x.side (get_or sides x.array 0) fits.0 (t.sides_low x.array write_fits.0))
+      -- by its cells and the side of a declaration
+      same_as : Option Declaration → Bool
+      same_as None = false
+      same_as (Some d) = same_side (side_of x.side) (side_of d.side)
 
-      write_hits : (c : ℕ) → writes_cell (layout_of f) (side_at c) c (action_of x) ≡ hits starts sides x c
-      unfolding action_of hits
-      write_hits c = rw (ne_eqb x.kind 1 (λ z. omega arith), eq-eqb x.kind 2 k, le-leb x.kind 3 (omega arith), write_side c _ refl, covers_range (layout_of f) (acting write x) c refl fits.2, t.starts_are x.array (omega (arith, fits.1)))
+      itself_by : (d : Option Declaration) (c : ℕ) → itself d c ≡ (same_as d && covers (layout_of f) (acting write x) c)
+      unfolding action_of same_as
+      itself_by None c = refl
+      itself_by (Some d) c = rw (ne_eqb x.kind 1 (λ z. omega arith), eq-eqb x.kind 2 k)
 
-    record_hits : (c : ℕ) → writes_cell (layout_of f) (side_at c) c (action_of x) ≡ hits starts sides x c
+      side_by : (d : Option Declaration) → get_or declared x.array None ≡ d → same_as d ≡ on_side d x.side
+      unfolding same_as
+      side_by None e = refl
+      side_by (Some d) e = sides_agree x.side d.side fits.0 (t.sides_low x.array write_fits.0 d e)
+
+      -- what is declared of the array of a cell of the record is what is declared of the record's array
+      write_side : (c : ℕ) (w : Bool) → covers (layout_of f) (acting write x) c ≡ w → (same_as (of_cell c) && w) ≡ (on_side (get_or declared x.array None) x.side && w)
+      write_side c false e = and-false (same_as (of_cell c)) ∙ sym (and-false (on_side (get_or declared x.array None) x.side))
+      write_side c true e = rw (covers_array (layout_of f) _ c e, side_by (get_or declared x.array None) refl)
+
+      write_hits : (c : ℕ) → itself (of_cell c) c ≡ hits starts declared x c
+      unfolding hits
+      write_hits c = itself_by (of_cell c) c ∙ write_side c _ refl ∙ rw (eq-eqb x.kind 2 k, le-leb x.kind 3 (omega arith), covers_range (layout_of f) (acting write x) c refl fits.2, t.starts_are x.array (omega (arith, fits.1)))
+
+    no_hits : (d : Option Declaration) → (x.kind ≡ 2 → ⊥) → (c : ℕ) → itself d c ≡ false
+    no_hits None k c = refl
+    no_hits (Some d) k c = no_write (layout_of f) (side_of d.side) c x k
+
+    record_hits : (c : ℕ) → itself (of_cell c) c ≡ hits starts declared x c
     unfolding hits
     record_hits c = elim (ℕᴺ_discrete x.kind 2) [
       | yes k ↦ write_hits k c
-      | no k ↦ no_write (layout_of f) (side_at c) c x k ∙ rw (ne_eqb x.kind 2 k)
+      | no k ↦ no_hits (of_cell c) k c ∙ rw (ne_eqb x.kind 2 k)
     ]
 
     -- a set that has the cells of record r, and then those of the rest
-    module _ (before now after : List Bool) (w : Adds now after (always f sides (r + 1 + i + j) end)) where
+    module _ (before now after : List Bool) (w : Adds now after (always f declared (r + 1 + i + j) end)) where
       pub adds_branch : x.kind ≡ 6 → (none one two : List Bool) → ((c : ℕ) → marked none c ≡ false) →
-          Adds none one (always f sides (r + 1) (r + 1 + i)) → Adds none two (always f sides (r + 1 + i) (r + 1 + i + j)) → Adds before now (λ c. marked one c && marked two c) →
-          Adds before after (always f sides r end)
+          Adds none one (always f declared (r + 1) (r + 1 + i)) → Adds none two (always f declared (r + 1 + i) (r + 1 + i + j)) → Adds before now (λ c. marked one c && marked two c) →
+          Adds before after (always f declared r end)
       adds_branch k none one two z u v m = record {
         size = w.size;
         marks = λ c l. w.marks c l ∙ rw (m.marks c l, rw (z c) at (u.marks c l), rw (z c) at (v.marks c l), at_branch k c) (or_assoc (marked before c) _ _);
       }
 
-      pub adds_fixed : x.kind ≡ 9 → Adds before now (always f sides (r + 1) (r + 1 + i)) → Adds before after (always f sides r end)
+      pub adds_fixed : x.kind ≡ 9 → Adds before now (always f declared (r + 1) (r + 1 + i)) → Adds before after (always f declared r end)
       adds_fixed k m = record { size = w.size; marks = λ c l. w.marks c l ∙ rw (m.marks c l, at_fixed k c) (or_assoc (marked before c) _ _) }
 
-      pub adds_other : (x.kind ≡ 6 → ⊥) → (x.kind ≡ 9 → ⊥) → Adds before now (hits starts sides x) → Adds before after (always f sides r end)
+      pub adds_other : (x.kind ≡ 6 → ⊥) → (x.kind ≡ 9 → ⊥) → Adds before now (hits starts declared x) → Adds before after (always f declared r end)
       adds_other k n m = record { size = w.size; marks = λ c l. w.marks c l ∙ rw (m.marks c l, at_other k n c, record_hits c) (or_assoc (marked before c) _ _) }

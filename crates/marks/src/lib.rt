@@ -10,15 +10,23 @@ ghost use Rattle.marks.specs.Inner.Marks.{marked, Adds, all_marked, Tables, hits
 use reading::kinds::{BRANCH, CELLS, FIXED, NAMES, STARTS, W, WRITE};
 use reading::{Fields, Span, cells_of, first_arm, record_at, second_arm};
 
+// What a pass declares of an array: the kind of the declaration and its side.
+#[derive(Clone, Copy)]
+pub struct Declaration {
+    pub kind: u8,
+    pub side: u8,
+}
+
+// What a pass declares of each array.
+pub type Declared = [Option<Declaration>; NAMES];
+
 // Marks the cells from `from` up to `end`.
 fn mark_range(set: &mut [bool; CELLS], from: usize, end: usize)
     requires { (length set.old ≡ 4096) × (end ≤ 4096) }
     ensures { Adds set.old set.new (stepped 1 from end) }
 {
-    let mut c = from;
-    while c < end {
-        set[c] = true;
-        c += 1;
+    if from < end {
+        set[from..end].fill(true);
     }
 }
 
@@ -27,12 +35,8 @@ fn mark_steps(set: &mut [bool; CELLS], cells: Span)
     requires { (length set.old ≡ 4096) × (cells.to ≤ 4096) × (1 ≤ cells.step) × (cells.step < 256) }
     ensures { Adds set.old set.new (stepped cells.step cells.from cells.to) }
 {
-    let to = cells.to;
-    let step = cells.step;
-    let mut c = cells.from;
-    while c < to {
+    for c in (cells.from..cells.to).step_by(cells.step) {
         set[c] = true;
-        c += step;
     }
 }
 
@@ -54,25 +58,24 @@ pub fn mark_both(set: &mut [bool; CELLS], one: &[bool; CELLS], two: &[bool; CELL
     requires { length set.old ≡ 4096 }
     ensures { Adds set.old set.new (λ (c : ℕ). marked one.now c && marked two.now c) }
 {
-    let mut c: usize = 0;
-    while c < CELLS {
-        set[c] = set[c] | (one[c] & two[c]);
-        c += 1;
+    for (c, cell) in set.iter_mut().enumerate() {
+        *cell |= one[c] & two[c];
     }
 }
 
-// Marks the cells of a write with the fields x, if on the side for its array; of another record none.
-pub fn mark_record(starts: &[u16; STARTS], sides: &[u8; NAMES], set: &mut [bool; CELLS], x: Fields)
+// Marks the cells of a write with the fields x, if its array is declared on its side; of another record none.
+pub fn mark_record(starts: &[u16; STARTS], declared: &Declared, set: &mut [bool; CELLS], x: Fields)
     requires { (length set.old ≡ 4096) × (x.kind ≡ 2 → (x.array < 32) × (get_or starts.now x.array 0 + x.q ≤ 4096)) }
-    ensures { Adds set.old set.new (hits starts.now sides.now x) }
+    ensures { Adds set.old set.new (hits starts.now declared.now x) }
 {
     if x.kind != WRITE {
         return;
     }
-    let a = x.array as usize;
-    if x.side == sides[a] {
-        let cells = cells_of(x, starts);
-        mark(set, cells);
+    let Some(d) = declared[usize::from(x.array)] else {
+        return;
+    };
+    if x.side == d.side {
+        mark(set, cells_of(x, starts));
     }
 }
 
@@ -81,15 +84,16 @@ pub fn mark_written(
     plan: &[u8],
     bodies: usize,
     starts: &[u16; STARTS],
-    sides: &[u8; NAMES],
+    declared: &Declared,
     set: &mut [bool; CELLS],
     r: usize,
     end: usize,
 )
-    requires { (length set.old ≡ 4096) × Tables plan.now starts.now sides.now × (r ≤ end) × (end ≤ 1024) × Inside plan.now bodies end × Walkable plan.now r end }
-    ensures { Adds set.old set.new (always plan.now sides.now r end) }
+    requires { (length set.old ≡ 4096) × Tables plan.now starts.now declared.now × (r ≤ end) × (end ≤ 1024) × Inside plan.now bodies end × Walkable plan.now r end }
+    ensures { Adds set.old set.new (always plan.now declared.now r end) }
 {
     let mut at = r;
+    // Not a range: a step is a record with its arms.
     while at < end {
         let x = record_at(plan, bodies, at);
         let second = at + 1 + first_arm(x);
@@ -97,13 +101,13 @@ pub fn mark_written(
         if x.kind == BRANCH {
             let mut one = [false; CELLS];
             let mut two = [false; CELLS];
-            mark_written(plan, bodies, starts, sides, &mut one, at + 1, second);
-            mark_written(plan, bodies, starts, sides, &mut two, second, next);
+            mark_written(plan, bodies, starts, declared, &mut one, at + 1, second);
+            mark_written(plan, bodies, starts, declared, &mut two, second, next);
             mark_both(set, &one, &two);
         } else if x.kind == FIXED {
-            mark_written(plan, bodies, starts, sides, set, at + 1, second);
+            mark_written(plan, bodies, starts, declared, set, at + 1, second);
         } else {
-            mark_record(starts, sides, set, x);
+            mark_record(starts, declared, set, x);
         }
         at = next;
     }
@@ -114,14 +118,7 @@ pub fn all_marked(set: &[bool; CELLS], from: usize, end: usize) -> bool
     requires { end ≤ 4096 }
     ensures { result ≡ all_marked set.now from (end - from) }
 {
-    let mut c = from;
-    while c < end {
-        if !set[c] {
-            return false;
-        }
-        c += 1;
-    }
-    true
+    from >= end || set[from..end].iter().all(|marked| *marked)
 }
 
 // Whether a declaration with the fields x is met where the marked cells are written: a W is if all cells of its array are marked.

@@ -1,19 +1,20 @@
 -- The cells of a memory that a loop has passed: those it has stored, and every other as it was.
-use mathlib.Core.Path.{◌≡◌, refl, sym, ◌∙◌}
-use mathlib.Core.Bool.{Bool, true, false, cond, ◌&&◌, and-false, true≢false}
+use mathlib.Core.Path.{◌≡◌, refl, sym, ap, ◌∙◌}
+use mathlib.Core.Bool.{Bool, true, false, cond, and-false, true≢false}
 use mathlib.Core.List.{List}
-use Prim.Native.Nat.{ℕ, ◌+◌, ◌≤◌, ◌<◌}
+use Prim.Native.Nat.{ℕ, ◌+◌, ◌-◌, ◌≤◌, ◌<◌}
 use native.Nat.{ℕᴺ_discrete}
 use native.Mathlib.Decide.{dec_lt}
 use native.Mathlib.Omega.{arith}
 use lib.Dec.{leb, ltb}
-use lib.ListN.{length, get_or, set, length-set}
+use lib.ListN.{length, get_or, set, take, drop, length-set}
+use Rattle.std.proofs.lemmas.List.{get_or-take, get_or-drop, length-take, length-drop}
 use lib.Seq.{get_or-set_same, get_or-set_other}
 use borrow.Author.Tests.{lt-ltb, le-ltb, le-leb, lt-leb}
 use Rattle.model.specs.Records.{distance, stepped}
-use Rattle.model.proofs.Booleans.{and_in, and_out}
+use Rattle.model.proofs.Booleans.{and_in}
 use Rattle.model.proofs.Numbering.{stepped_first, stepped_next, stepped_none, stepped_bounds, stepped_one}
-use Rattle.memories.specs.Inner.Ranges.{Room, AllCurrent, CurrentTo, Passed, FirstStale, Changed, Same, of_side, ChangedOn}
+use Rattle.memories.specs.Inner.Ranges.{Room, CurrentTo, Passed, FirstStale, Changed, Same, of_side, ChangedOn}
 
 -- how far apart cells are, as a byte says it: 0 and 1 mean each cell
 pub distance_each : (step : ℕ) → step ≤ 1 → distance step ≡ 1
@@ -45,16 +46,6 @@ module _ {k to : ℕ} {new : ℕ → ℕ} (some : 1 ≤ k) {c : ℕ} (h : c < to
     ];
   }
 
-  -- those behind it are stored, and then cell c
-  changed_before : {before l : List ℕ} → c < length before → Changed k (c + k) to new before l → Changed k c to new before (set l c (new c))
-  changed_before {before} {l} b m = record {
-    size = length-set l c (new c) ∙ m.size;
-    cell = λ n. elim (ℕᴺ_discrete n c) [
-      | yes e ↦ rw (e, get_or-set_same l c (new c) 0 (rw m.size b), stepped_first k c to h)
-      | no e ↦ get_or-set_other l c n (new c) 0 e ∙ m.cell n ∙ rw (stepped_next k c to some n e)
-    ];
-  }
-
 -- a loop that stores upwards stands at cell c with the memory l: to store those from c on is all that is left
 pub record Storing (k from to : ℕ) (new : ℕ → ℕ) (before : List ℕ) (c : ℕ) (l : List ℕ) : Type 0 where
   pub size : length l ≡ length before
@@ -73,24 +64,7 @@ module _ {k from to : ℕ} {new : ℕ → ℕ} {before l : List ℕ} {c : ℕ} (
   pub storing_all : to ≤ c → Changed k from to new before l
   storing_all h = w.rest l (changed_none h)
 
--- the same from the last cell of a range down
-pub changed_down : {d c to : ℕ} {new : ℕ → ℕ} {before l : List ℕ} → d + 1 ≡ c → c ≤ to → d < length before → Changed 1 c to new before l → Changed 1 d to new before (set l d (new d))
-changed_down {l = l} e h b m = changed_before (omega arith) (omega arith) {l = l} b (rw e m)
-
--- more is stored before what is stored
-pub changed_less : {from mid to : ℕ} {new : ℕ → ℕ} {before between after : List ℕ} → from ≤ mid → mid ≤ to → Changed 1 mid to new before between → Changed 1 from mid new between after → Changed 1 from to new before after
-changed_less {from} {mid} {to} {new} {before} {between} {after} h g a b = record { size = b.size ∙ a.size; cell = cell }
-  where
-    cell : (k : ℕ) → get_or after k 0 ≡ cond (stepped 1 from to k) (new k) (get_or before k 0)
-    cell k = elim (dec_lt k mid) [
-      | yes l ↦ elim (dec_lt k from) [
-        | yes m ↦ b.cell k ∙ rw (lt-leb from k m) (a.cell k ∙ rw (lt-leb mid k l))
-        | no m ↦ b.cell k ∙ rw (each from mid k (omega arith) l, each from to k (omega arith) (omega arith))
-      ]
-      | no l ↦ b.cell k ∙ rw (le-ltb k mid (omega arith), and-false (leb from k)) (a.cell k ∙ rw (stepped_one mid to k, stepped_one from to k, le-leb mid k (omega arith), le-leb from k (omega arith)))
-    ]
-
--- and behind it, where each cell gets what `new` says of it
+-- more is stored behind what is stored, where each cell gets what `new` says of it
 pub changed_behind : {from mid to v : ℕ} {new : ℕ → ℕ} {before between after : List ℕ} → from ≤ mid → mid ≤ to → ((c : ℕ) → mid ≤ c → c < to → v ≡ new c) →
     Changed 1 from mid new before between → Changed 1 mid to (λ c. v) between after → Changed 1 from to new before after
 changed_behind {from} {mid} {to} {v} {new} {before} {between} {after} h g e a b = record { size = b.size ∙ a.size; cell = cell }
@@ -127,32 +101,25 @@ changed_again {k} {from} {to} {new} {new'} {before} {between} {after} a b = reco
     go c true e f = e
     go c false e f = e ∙ f
 
--- four cells stored, the last first
-pub changed_four : (c : ℕ) (new : ℕ → ℕ) (l : List ℕ) → c + 4 ≤ length l → Changed 1 c (c + 4) new l (set (set (set (set l (c + 3) (new (c + 3))) (c + 2) (new (c + 2))) (c + 1) (new (c + 1))) c (new c))
-changed_four c new l h =
-    changed_down refl (omega arith) (omega arith)
-    (changed_down (omega arith) (omega arith) (omega arith) (changed_down (omega arith) (omega arith) (omega arith) (changed_down (omega arith) (omega arith) (omega arith) (changed_none {from = c + 4} (omega arith)))))
+-- a cell of a part of a memory
+part_at : (l : List ℕ) (from n c : ℕ) → from ≤ c → c < from + n → get_or (take n (drop from l)) (c - from) 0 ≡ get_or l c 0
+part_at l from n c h g =
+    let e : from + (c - from) ≡ c = omega arith in
+    get_or-take n (drop from l) (c - from) 0 (omega arith) ∙ get_or-drop from l (c - from) 0 ∙ ap (λ i. get_or l i 0) e
 
--- eight more before those that are stored, by two blocks of four
-pub changed_eight : {d c to : ℕ} {new : ℕ → ℕ} {l l₁ l₂ l₃ : List ℕ} → d + 8 ≡ c → c ≤ to → Changed 1 c to new l l₁ → Changed 1 (d + 4) (d + 4 + 4) new l₁ l₂ → Changed 1 d (d + 4) new l₂ l₃ → Changed 1 d to new l l₃
-changed_eight {d} {c} {to} {new} {l} {l₁} {l₂} e h a b g =
-    let q : d + 4 + 4 ≡ c = omega arith in
-    let b' : Changed 1 (d + 4) c new l₁ l₂ = rw q at b in
-    changed_less (omega arith) (omega arith) (changed_less (omega arith) h a b') g
-
--- cells that are current: one, and those of two ranges in a row
-pub current_one : (copies latest : List ℕ) (c : ℕ) → get_or copies c 0 ≡ get_or latest c 0 → AllCurrent copies latest c (c + 1)
-current_one copies latest c e k h l = let q : k ≡ c = omega arith in rw q e
-
-pub current_more : (copies latest : List ℕ) (from mid to : ℕ) → AllCurrent copies latest from mid → AllCurrent copies latest mid to → AllCurrent copies latest from to
-current_more copies latest from mid to a b k h l = elim (dec_lt k mid) [
-  | yes g ↦ a k h g
-  | no g ↦ b k (omega arith) l
-]
-
--- both halves of a block
-pub current_halves : (copies latest : List ℕ) (n c : ℕ) (x y : Bool) → (x ≡ true → AllCurrent copies latest c (c + n)) → (y ≡ true → AllCurrent copies latest (c + n) (c + n + n)) → (x && y) ≡ true → AllCurrent copies latest c (c + n + n)
-current_halves copies latest n c x y a b e = let p = and_out x y e in current_more copies latest c (c + n) (c + n + n) (a p.0) (b p.1)
+-- a block more that is the same in both memories
+pub block_current : {copies latest : List ℕ} {from to c d : ℕ} → c ≤ d → d ≤ to → to ≤ length copies → CurrentTo copies latest from to c →
+    ((k : ℕ) → k < length (take (d - c) (drop c copies)) → get_or (take (d - c) (drop c copies)) k 0 ≡ get_or (take (d - c) (drop c latest)) k 0) → CurrentTo copies latest from to d
+block_current {copies} {latest} {from} {to} {c} {d} o e r w same = record {
+  low = omega (arith, w.low);
+  high = e;
+  before = λ k h g. elim (dec_lt k c) [
+    | yes l ↦ w.before k h l
+    | no l ↦
+        let inside : k - c < length (take (d - c) (drop c copies)) = omega (arith, length-take {A = ℕ}, length-drop {A = ℕ}) in
+        sym (part_at copies c (d - c) k (omega arith) (omega arith)) ∙ same (k - c) inside ∙ part_at latest c (d - c) k (omega arith) (omega arith)
+  ];
+}
 
 -- a search that stands where each cell before it is current
 pub passed_each : {copies latest : List ℕ} {from to r : ℕ} → CurrentTo copies latest from to r → Passed copies latest 1 from to r

@@ -1,4 +1,5 @@
 // The cells `from`, `from` + step and so on below `to` of a lent memory: no other cell is touched.
+// No `step_by`: it tests twice at each cell, and takes two to three times as long.
 ghost use Rattle.std.specs.Prelude.{get_or};
 ghost use Rattle.memories.specs.Inner.Ranges.{Room, IsStep, Changed};
 

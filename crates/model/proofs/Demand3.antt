@@ -7,7 +7,7 @@ use mathlib.Core.Option.{Option, none, some}
 use mathlib.Core.Bool.{Bool, true, false, cond, true≢false}
 use native.Mathlib.Omega.{arith}
 use Rattle.model.specs.Lists.{keep, chain}
-use Rattle.model.specs.declared.Verdict.TheVariants.{Accepted}
+use Rattle.model.specs.Verdicts.{Accepted}
 use Rattle.model.specs.declared.Tally.{Tally}
 use Rattle.model.specs.Sides.{Side, host, at, equals, cell_count, Layout, has_scratch, scratch_cell}
 use Rattle.model.specs.Records.{read, whole, Action, covers, cover_count}

@@ -1,6 +1,7 @@
 -- Tests, runs and stamps, and how cells are numbered
 pub mod Booleans
 pub mod Rows
+pub mod Verdicts
 pub mod Runs
 pub mod Unmet
 pub mod Needs

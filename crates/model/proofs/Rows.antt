@@ -1,20 +1,16 @@
 -- The first row that holds: of a row and the rows after it, of two lists of rows, of the rows of many entries.
 use mathlib.Core.Path.{◌≡◌, refl}
-use mathlib.Core.Logic.{⊎_elim}
 use mathlib.Core.Bool.{Bool, true, false}
 use mathlib.Core.List.{List, [], ◌∷◌, ◌++◌}
 use Prim.Native.Nat.{ℕ, zero, suc, ◌+◌, ◌<◌}
 use native.Mathlib.Decide.{dec_lt}
 use native.Mathlib.Numerals.{add-one}
 use native.Mathlib.Omega.{arith}
-use denote.Enum.Declared.{tag_of}
-use types.Run.{OneOf}
-use Rattle.model.specs.contracts.Verdict.{the_type}
-use Rattle.model.specs.declared.Verdict.{Verdict}
-use Rattle.model.specs.declared.Verdict.TheVariants.{Accepted, Stopped, Refused}
+use Rattle.model.specs.Verdicts.{Verdict, Accepted, Stopped, Refused, accepted}
+use Rattle.model.specs.declared.Fault.{Fault}
+use Rattle.std.specs.Prelude.{Ok, Err}
 use Rattle.model.specs.declared.Record.{Record}
 use Rattle.model.specs.declared.Cell.{Cell}
-use Rattle.model.specs.Verdicts.{accepted}
 use Rattle.model.specs.Rows.{Row, row, answer_of, all_rows}
 
 pub refused : {n p : ℕ} {v : Verdict} → v ≡ Refused n p → v ≡ Accepted → ⊥
@@ -29,13 +25,9 @@ never_stops (row false n p ∷ rows) r c e = never_stops rows r c e
 
 -- every other answer is not accepted
 pub unaccepted : (v : Verdict) → (v ≡ Accepted → ⊥) → accepted v ≡ false
-unaccepted Accepted nay = absurd (nay refl)
-unaccepted (Stopped r c) nay = refl
-unaccepted (Refused number place) nay = refl
-
--- an answer that a `let .. else` for Accepted turns away
-pub turned : (v : Verdict) → OneOf (1 ∷ 2 ∷ []) (tag_of the_type v) → v ≡ Accepted → ⊥
-turned v k e = ⊎_elim (λ z. omega arith) (λ z. omega arith) (rw e at k)
+unaccepted (Ok _) nay = absurd (nay refl)
+unaccepted (Err (Fault.Stopped r c)) nay = refl
+unaccepted (Err (Fault.Refused number place)) nay = refl
 
 -- a row that holds is the answer; one that does not hold leaves the answer to the others
 pub holds : (c : Bool) (n p : ℕ) (rows : List Row) → c ≡ true → Refused n p ≡ answer_of (row c n p ∷ rows)

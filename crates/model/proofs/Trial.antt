@@ -9,8 +9,7 @@ use mathlib.Core.Option.{Option, none, some}
 use native.Mathlib.Omega.{arith}
 use lib.Dec.{leb}
 use borrow.Author.Tests.{leb-true, leb-false}
-use Rattle.model.specs.declared.Verdict.{Verdict}
-use Rattle.model.specs.declared.Verdict.TheVariants.{Accepted}
+use Rattle.model.specs.Verdicts.{Verdict, Accepted}
 use Rattle.model.specs.Sides.{Layout, cell_count}
 use Rattle.model.specs.Records.{Action}
 use Rattle.model.specs.Effects.{start}

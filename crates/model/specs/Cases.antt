@@ -1,14 +1,12 @@
 -- The twelve cases (document 01, 'Twelve cases, one array of one cell unless said'), in one table, the plan of 'Checkers that would nearly
 -- do', and cases of fixed loops, of steps and of scratch (document 02, requests a, c and f).
 use Rattle.std.specs.Prelude.{ℕ, Bool, true, false, List, [], ◌∷◌}
-use Rattle.model.specs.declared.Verdict.{Verdict}
-use Rattle.model.specs.declared.Verdict.TheVariants.{Accepted}
+use Rattle.model.specs.Verdicts.{Verdict, Accepted, stopped_at}
 use Rattle.model.specs.Lists.{All}
 use Rattle.model.specs.Sides.{Side, host, card, Layout}
 use Rattle.model.specs.Records.{Verb, read, write, copy, need, mark, Action}
 use Rattle.model.specs.Blocks.{Block, done, branch, loop, fixed, numbered, ◌⨾◌, Plan}
 use Rattle.model.specs.Runs.{Config, stopped, Ends}
-use Rattle.model.specs.Verdicts.{stopped_at}
 use Rattle.model.specs.Check.{Answers}
 use Rattle.model.specs.Judging.{W, Pass, Rules}
 

@@ -1,7 +1,7 @@
 -- What the check answers (document 01, 'Sides, cells, stamps').
-use Rattle.std.specs.Prelude.{ℕ, ◌≤◌, ◌<◌, ◌≡◌, List, Bool, false}
-use Rattle.model.specs.declared.Verdict.{Verdict}
-use Rattle.model.specs.declared.Verdict.TheVariants.{Accepted, Stopped, Refused}
+use Rattle.std.specs.Prelude.{ℕ, ◌≤◌, ◌<◌, ◌≡◌, List, Bool, false, Ok, Err}
+use Rattle.model.specs.Verdicts.{Verdict}
+use Rattle.model.specs.declared.Fault.{Fault}
 use Rattle.model.specs.Sides.{cell_count}
 use Rattle.model.specs.Records.{Action}
 use Rattle.model.specs.Effects.{met}
@@ -21,9 +21,9 @@ pub record MayStop (plan : Plan) (r c : ℕ) : Type 0 where
 
 -- "The named record is the lowest at which some carried-on run stops, and the cell is the lowest that stops there in some run."
 abbrev pub Answers : Plan → Verdict → Type 0
-Answers plan Accepted = (r c : ℕ) → MayStop plan r c → ⊥
-Answers plan (Stopped r c) =
+Answers plan (Ok _) = (r c : ℕ) → MayStop plan r c → ⊥
+Answers plan (Err (Fault.Stopped r c)) =
     MayStop plan r.0 c.0
     × ((r' c' : ℕ) → MayStop plan r' c' → r.0 ≤ r')
     × ((c' : ℕ) → MayStop plan r.0 c' → c.0 ≤ c')
-Answers plan (Refused number place) = ⊥
+Answers plan (Err (Fault.Refused number place)) = ⊥

@@ -1,7 +1,6 @@
 -- What is proved of these definitions: each theorem that a reader relies on, by name, with the place of its proof.
 use Rattle.std.specs.Prelude.{ℕ, suc, ◌+◌, ◌-◌, ◌*◌, ◌/◌, ◌≤◌, ◌<◌, ◌≡◌, ◌↔◌, Bool, true, false, List}
-use Rattle.model.specs.declared.Verdict.{Verdict}
-use Rattle.model.specs.declared.Verdict.TheVariants.{Accepted}
+use Rattle.model.specs.Verdicts.{Verdict, Accepted}
 use Rattle.model.specs.Lists.{any}
 use Rattle.model.specs.Sides.{Side, host, at, Layout, cell_count, span_of, in_span, has_scratch}
 use Rattle.model.specs.Records.{read, whole, Action, distance, covers, cover_count}

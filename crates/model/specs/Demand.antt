@@ -1,6 +1,6 @@
 -- Demand 3 (document 01, 'The words of demand 3'; document 02, request f).
 use Rattle.std.specs.Prelude.{ℕ, suc, ◌<◌, ◌≡◌, List, [], ◌∷◌, ◌++◌, map, reverse, Bool, true, false, cond, not, ◌&&◌, length, eqb}
-use Rattle.model.specs.declared.Verdict.TheVariants.{Accepted}
+use Rattle.model.specs.Verdicts.{Accepted}
 use Rattle.model.specs.Lists.{any, keep, chain, All}
 use Rattle.model.specs.Sides.{Side, host, same_side, at, Layout, cell_count, span_of, in_span, is_scratch, has_scratch, scratch_cell}
 use Rattle.model.specs.Records.{read, write, same_verb, whole, Action, covers}

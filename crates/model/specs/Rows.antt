@@ -1,7 +1,6 @@
 -- The table of numbers (document 01, 'Numbers by the place where each is checked'): an answer is the first row whose condition holds.
 use Rattle.std.specs.Prelude.{ℕ, zero, suc, Bool, cond, List, [], ◌∷◌, ◌++◌}
-use Rattle.model.specs.declared.Verdict.{Verdict}
-use Rattle.model.specs.declared.Verdict.TheVariants.{Accepted, Refused}
+use Rattle.model.specs.Verdicts.{Verdict, Accepted, Refused}
 
 -- a row: its condition, its number, its place
 pub data Row : Type 0 where

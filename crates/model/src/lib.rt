@@ -5,24 +5,33 @@ ghost use Rattle.std.specs.Prelude.{◌≡◌};
 ghost use Rattle.model.specs.Verdicts.{values_of};
 
 // A cell's number, counted through all arrays.
-#[derive(Clone, Copy)]
+#[derive(Clone, Copy, Debug, PartialEq, Eq)]
 pub struct Cell(pub u16);
 
 // A record's number, counted through all bodies.
-#[derive(Clone, Copy)]
+#[derive(Clone, Copy, Debug, PartialEq, Eq)]
 pub struct Record(pub u16);
 
 // An array's number.
 #[derive(Clone, Copy)]
 pub struct Array(pub u16);
 
-// An answer: accepted, stopped at a record in a cell, or refused with a number and a place.
-#[derive(Clone, Copy)]
-pub enum Verdict {
-    Accepted,
+// A side: the host's memory or the card's.
+#[derive(Clone, Copy, Debug, PartialEq, Eq)]
+pub enum Side {
+    Host,
+    Card,
+}
+
+// Why a plan is not accepted: some run of it stops at a record in a cell, or it is refused with a number and a place.
+#[derive(Clone, Copy, Debug, PartialEq, Eq)]
+pub enum Fault {
     Stopped(Record, Cell),
     Refused(u8, u16),
 }
+
+// An answer: accepted, or why not.
+pub type Verdict = Result<(), Fault>;
 
 // What is reported of an answer: its number, its place or record, its cell.
 #[derive(Clone, Copy)]
@@ -40,32 +49,16 @@ pub struct Tally {
     pub moved: u64,
 }
 
-// An answer with a part of the caller's bytes, where it is accepted: where it begins and its length.
+// A part of the caller's bytes: where it begins and its length.
 #[derive(Clone, Copy)]
 pub struct Part {
-    pub verdict: Verdict,
     pub from: u16,
     pub size: u16,
 }
 
-// An answer with the length of an expansion's file, where it is accepted.
-#[derive(Clone, Copy)]
-pub struct Length {
-    pub verdict: Verdict,
-    pub bytes: u32,
-}
-
-// An answer with the side that a part of a memory is of, where it is accepted.
-#[derive(Clone, Copy)]
-pub struct View {
-    pub verdict: Verdict,
-    pub side: u8,
-}
-
-// A run's answer; the figures are those of a run that is done, 0 otherwise.
+// The figures of a run that is done.
 #[derive(Clone, Copy)]
 pub struct End {
-    pub verdict: Verdict,
     pub used: u32,
     pub host_flags: u32,
     pub card_flags: u32,
@@ -78,19 +71,19 @@ pub fn values_of(v: Verdict, stop: u8) -> Values
     ensures { result ≡ values_of stop v }
 {
     match v {
-        Verdict::Accepted => Values {
+        Ok(()) => Values {
             number: 0,
             place: 0,
             cell: 0,
         },
-        Verdict::Stopped(r, c) => Values {
+        Err(Fault::Stopped(r, c)) => Values {
             number: stop,
             place: r.0,
             cell: c.0,
         },
-        Verdict::Refused(number, place) => Values {
-            number: number,
-            place: place,
+        Err(Fault::Refused(number, place)) => Values {
+            number,
+            place,
             cell: 0,
         },
     }

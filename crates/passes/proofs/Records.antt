@@ -22,10 +22,10 @@ use Rattle.format.proofs.Walking.{Facts, opened_facts, good_parts}
 use Rattle.format.proofs.Acts.{cells_fit, array_fits}
 use Rattle.format.proofs.Trees.{is_branch, is_loop, is_fixed, is_leaf, shape, ActsOrNests, acts, pass_kind, pass_declaration, pass_walk, pass_body}
 use Rattle.contents.specs.declared.Opened.{Opened}
-use Rattle.contents.specs.Inner.Findings.{found}
+use Rattle.contents.specs.Found.{found}
 use Rattle.contents.proofs.Found.{body_at}
 use Rattle.format.specs.Opening.{opening}
-use Rattle.model.specs.declared.Verdict.TheVariants.{Accepted}
+use Rattle.model.specs.Verdicts.{Accepted}
 use Rattle.passes.specs.declared.Extent.{Extent}
 use Rattle.passes.specs.Inner.Passes.{extent_of, PassAt}
 

@@ -28,126 +28,117 @@ pub struct Place {
     pub used: usize,
 }
 
-// The first record of a body.
-pub fn first_place(records: u16) -> Place
-    ensures { result ≡ started records }
-{
-    Place {
-        at: 0,
-        end: records as usize,
-        depth: 0,
-        used: 0,
-    }
-}
-
-// Into an arm, after which the run goes on at record `back`.
-fn enter(p: Place, at: usize, end: usize, back: usize, room: &mut [u16]) -> Place
-    requires { (p.depth < 16) × (length room.old ≡ 81) × (p.end < 65536) × (back < 65536) }
-    ensures { spot result room.new ≡ entered (spot p room.old) at end back }
-{
-    let d = p.depth;
-    room[ENDS + d] = p.end as u16;
-    room[BACKS + d] = back as u16;
-    Place {
-        at: at,
-        end: end,
-        depth: d + 1,
-        used: p.used,
-    }
-}
-
-// Past a loop.
-fn skip(p: Place, at: usize) -> Place
-    ensures { (room : List ℕ) → spot result room ≡ skipped (spot p room) at }
-{
-    Place {
-        at: at,
-        end: p.end,
-        depth: p.depth,
-        used: p.used,
-    }
-}
-
-// The same; an empty arm is passed over.
-fn into_arm(p: Place, at: usize, end: usize, back: usize, room: &mut [u16]) -> Place
-    requires { (p.depth < 16) × (length room.old ≡ 81) × (p.end < 65536) × (back < 65536) }
-    ensures { spot result room.new ≡ into (spot p room.old) at end back }
-{
-    if at == end {
-        return skip(p, back);
-    }
-    enter(p, at, end, back, room)
-}
-
-// An entry of the room as a whole word.
-fn wide(x: u16) -> usize
-    ensures { result ≡ x }
-{
-    x as usize
-}
-
-// Out of an arm.
-fn leave(p: Place, room: &[u16]) -> Place
-    requires { (0 < p.depth) × (p.depth ≤ 16) × (length room.now ≡ 81) }
-    ensures { spot result room.now ≡ left_arm (spot p room.now) }
-{
-    let d = p.depth - 1;
-    Place {
-        at: wide(room[BACKS + d]),
-        end: wide(room[ENDS + d]),
-        depth: d,
-        used: p.used,
-    }
-}
-
-// Out of every arm that ends here.
-pub fn settle(p: Place, room: &[u16]) -> Place
-    requires { (p.depth ≤ 16) × (length room.now ≡ 81) }
-    ensures { spot result room.now ≡ settled (spot p room.now) }
-{
-    let mut q = p;
-    while (q.at == q.end) & (0 < q.depth) {
-        q = leave(q, room);
-    }
-    q
-}
-
-// Where a branch or a test of a loop with the fields x leads on a choice.
-pub fn choose(p: Place, x: Fields, choice: u8, room: &mut [u16]) -> Place
-    requires { (p.depth < 16) × (p.used < 65536) × (length room.old ≡ 81) × (p.end < 65536) × (p.at + 1 + first_arm x + second_arm x < 65536) }
-    ensures { spot result room.new ≡ chosen (spot p room.old) x choice }
-{
-    let at = p.at;
-    let second = at + 1 + first_arm(x);
-    let next = second + second_arm(x);
-    let mut q = p;
-    q.used = p.used + 1;
-    if x.kind == BRANCH {
-        if choice == 0 {
-            return into_arm(q, second, next, next, room);
+impl Place {
+    // The first record of a body.
+    pub fn first(records: u16) -> Place
+        ensures { result ≡ started records }
+    {
+        Place {
+            at: 0,
+            end: usize::from(records),
+            depth: 0,
+            used: 0,
         }
-        return into_arm(q, at + 1, second, next, room);
     }
-    if choice == 0 {
-        return skip(q, next);
-    }
-    into_arm(q, at + 1, second, at, room)
-}
 
-// A turn of a fixed loop with the fields x begins.
-#[tactic(auto, unfolding(crate::specs::Inner::Places::turned))]
-pub fn turn(p: Place, x: Fields, room: &mut [u16]) -> Place
-    requires { (p.depth < 16) × (length room.old ≡ 81) × (p.end < 65536) × (p.at + 1 + first_arm x < 65536) × (begun_at room.old p.depth < x.q) }
-    ensures { spot result room.new ≡ turned (spot p room.old) x }
-{
-    let at = p.at;
-    let second = at + 1 + first_arm(x);
-    let here = TURNS + p.depth;
-    let n = room[here];
-    if x.q - n == 1 {
-        room[here] = 0;
-        return into_arm(p, at + 1, second, second, room);
+    // Into an arm, after which the run goes on at record `back`.
+    fn enter(self, at: usize, end: usize, back: usize, room: &mut [u16]) -> Place
+        requires { (self.depth < 16) × (length room.old ≡ 81) × (self.end < 65536) × (back < 65536) }
+        ensures { spot result room.new ≡ entered (spot self room.old) at end back }
+    {
+        room[ENDS + self.depth] = self.end as u16;
+        room[BACKS + self.depth] = back as u16;
+        Place {
+            at,
+            end,
+            depth: self.depth + 1,
+            ..self
+        }
     }
-    room[here] = n + 1;
-    into_arm(p, at + 1, second, at, room)
+
+    // Past a loop.
+    fn skip(self, at: usize) -> Place
+        ensures { (room : List ℕ) → spot result room ≡ skipped (spot self room) at }
+    {
+        Place { at, ..self }
+    }
+
+    // Into an arm; an empty one is passed over.
+    fn into_arm(self, at: usize, end: usize, back: usize, room: &mut [u16]) -> Place
+        requires { (self.depth < 16) × (length room.old ≡ 81) × (self.end < 65536) × (back < 65536) }
+        ensures { spot result room.new ≡ into (spot self room.old) at end back }
+    {
+        if at == end {
+            return self.skip(back);
+        }
+        self.enter(at, end, back, room)
+    }
+
+    // Out of an arm.
+    fn leave(self, room: &[u16]) -> Place
+        requires { (0 < self.depth) × (self.depth ≤ 16) × (length room.now ≡ 81) }
+        ensures { spot result room.now ≡ left_arm (spot self room.now) }
+    {
+        let depth = self.depth - 1;
+        Place {
+            at: usize::from(room[BACKS + depth]),
+            end: usize::from(room[ENDS + depth]),
+            depth,
+            ..self
+        }
+    }
+
+    // Out of every arm that ends here.
+    pub fn settle(self, room: &[u16]) -> Place
+        requires { (self.depth ≤ 16) × (length room.now ≡ 81) }
+        ensures { spot result room.now ≡ settled (spot self room.now) }
+    {
+        let mut q = self;
+        while (q.at == q.end) & (0 < q.depth) {
+            q = q.leave(room);
+        }
+        q
+    }
+
+    // Where a branch or a test of a loop with the fields x leads on a choice.
+    pub fn choose(self, x: Fields, choice: u8, room: &mut [u16]) -> Place
+        requires { (self.depth < 16) × (self.used < 65536) × (length room.old ≡ 81) × (self.end < 65536) × (self.at + 1 + first_arm x + second_arm x < 65536) }
+        ensures { spot result room.new ≡ chosen (spot self room.old) x choice }
+    {
+        let at = self.at;
+        let second = at + 1 + first_arm(x);
+        let next = second + second_arm(x);
+        let q = Place {
+            used: self.used + 1,
+            ..self
+        };
+        if x.kind == BRANCH {
+            if choice == 0 {
+                return q.into_arm(second, next, next, room);
+            }
+            return q.into_arm(at + 1, second, next, room);
+        }
+        if choice == 0 {
+            return q.skip(next);
+        }
+        q.into_arm(at + 1, second, at, room)
+    }
+
+    // A turn of a fixed loop with the fields x begins.
+    #[tactic(auto, unfolding(crate::specs::Inner::Places::turned))]
+    pub fn turn(self, x: Fields, room: &mut [u16]) -> Place
+        requires { (self.depth < 16) × (length room.old ≡ 81) × (self.end < 65536) × (self.at + 1 + first_arm x < 65536) × (begun_at room.old self.depth < x.q) }
+        ensures { spot result room.new ≡ turned (spot self room.old) x }
+    {
+        let at = self.at;
+        let second = at + 1 + first_arm(x);
+        let here = TURNS + self.depth;
+        let n = room[here];
+        if x.q - n == 1 {
+            room[here] = 0;
+            return self.into_arm(at + 1, second, second, room);
+        }
+        room[here] = n + 1;
+        self.into_arm(at + 1, second, at, room)
+    }
 }

@@ -4,11 +4,13 @@
 
 ghost use Rattle.plancheck.specs.Lines.{LineOf};
 
+use checker::check_opened;
 use console::answers::print_answer;
-use console::fail;
-use console::streams::Stream;
+use console::program::Program;
+use format::{open, opened_kind};
 use input::{ROOM, read_plan};
-use model::Values;
+use judge::judge_opened;
+use model::{Values, values_of};
 use reading::kinds::PLAIN;
 
 // What the line says.
@@ -23,32 +25,30 @@ struct Line {
 fn line_of(plan: &[u8]) -> Line
     ensures { LineOf plan.now result }
 {
-    let o = format::open(plan);
-    let kind = o.kind;
-    if kind == PLAIN {
-        let checked = checker::check(plan);
-        return Line {
-            kind: kind,
-            values: model::values_of(checked, 18),
-        };
-    }
-    let judged = judge::judge(plan);
+    let o = open(plan);
+    let kind = opened_kind(&o);
+    let answer = if kind == PLAIN {
+        check_opened(plan, o)
+    } else {
+        judge_opened(plan, o)
+    };
     Line {
-        kind: kind,
-        values: model::values_of(judged, 18),
+        kind,
+        values: values_of(answer, 18),
     }
 }
 
 fn main(rt: HostRuntime) {
-    let err = rt.stderr();
+    let program = Program {
+        name: "plancheck",
+        err: rt.stderr(),
+    };
     let mut room = [0u8; ROOM];
-    let input = read_plan(rt.stdin(), err, b"plancheck", &mut room);
-    if input.failed {
+    let Some(size) = read_plan(rt.stdin(), program, &mut room) else {
         return;
-    }
-    let n = input.size;
-    let line = line_of(&room[..n]);
-    if let Err(why) = print_answer(Stream::Out(rt.stdout()), line.kind, line.values) {
-        fail(err, b"plancheck", b"standard output", why);
+    };
+    let line = line_of(&room[..size]);
+    if let Err(why) = print_answer(rt.stdout(), line.kind, line.values) {
+        program.fail(b"standard output", why);
     }
 }

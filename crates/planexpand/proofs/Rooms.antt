@@ -1,5 +1,5 @@
 -- The output has room for every expansion: 17 is never the answer, and what is written is the expansion's file.
-use mathlib.Core.Path.{◌≡◌, refl, sym, ap}
+use mathlib.Core.Path.{◌≡◌, refl, sym, ap, ◌∙◌}
 use mathlib.Core.Bool.{false, cond}
 use mathlib.Core.List.{List, [], ◌++◌, append_assoc, append-nil}
 use Prim.Native.Nat.{ℕ, ◌≤◌}
@@ -9,10 +9,10 @@ use lib.ListN.{length, take, drop, length-append}
 use lib.Seq.{take_at}
 use borrow.Author.Tests.{le-ltb}
 use Rattle.input.specs.Counts.{IsPrefixLen}
-use Rattle.model.specs.declared.Verdict.{Verdict}
-use Rattle.model.specs.declared.Verdict.TheVariants.{Accepted, Stopped, Refused}
+use Rattle.model.specs.Verdicts.{Verdict, Accepted, accepted, where_accepted}
+use Rattle.std.specs.Prelude.{Ok, Err}
+use Rattle.std.specs.Result.{result_unwrap_or}
 use Rattle.model.specs.Blocks.{size}
-use Rattle.model.specs.Verdicts.{accepted}
 use Rattle.model.specs.Rows.{Row, answer_of}
 use Rattle.format.specs.Plans.{declared_plan_of}
 use Rattle.format.proofs.Walking.{opened_facts}
@@ -44,6 +44,11 @@ module _ (f : List ℕ) where
     unfolding expand_answer length_answer
     roomy = simp (append_assoc, append-nil) at (unheld rows [] (ltb (length out) (length (expansion_file f))) 17 0 fits)
 
+-- a length where an answer accepts, else 0
+where_length : (v : Verdict) (n : ℕ) → result_unwrap_or (where_accepted v n) 0 ≡ cond (accepted v) n 0
+where_length (Ok _) n = refl
+where_length (Err e) n = refl
+
 -- so many bytes of the output are written, by the answer
 module _ (f out : List ℕ) where
   abbrev shown : Verdict → List ℕ
@@ -54,14 +59,14 @@ module _ (f out : List ℕ) where
     shows : take (cond (accepted v) (length (expansion_file f)) 0) (cond (accepted v) (expansion_file f ++ drop (length (expansion_file f)) out) out) ≡ shown v
 
   writes : (v : Verdict) → Writes v
-  writes Accepted =
+  writes (Ok _) =
       let e : take (length (expansion_file f)) (expansion_file f ++ drop (length (expansion_file f)) out) ≡ expansion_file f = take_at (expansion_file f) _ _ refl in
       record { counts = (simp length-append (omega arith), ap length (sym e)); shows = e }
-  writes (Stopped r c) = record { counts = (omega arith, refl); shows = refl }
-  writes (Refused number place) = record { counts = (omega arith, refl); shows = refl }
+  writes (Err e) = record { counts = (omega arith, refl); shows = refl }
 
-  pub written_out : 8266 ≤ length out → (n : ℕ) → n ≡ (length_of_expansion f).bytes → IsPrefixLen n (expanded f out) × (take n (expanded f out) ≡ shown (expand_answer f out))
+  pub written_out : 8266 ≤ length out → (n : ℕ) → n ≡ result_unwrap_or (length_of_expansion f) 0 → IsPrefixLen n (expanded f out) × (take n (expanded f out) ≡ shown (expand_answer f out))
   unfolding expanded length_of_expansion
   written_out room n e =
       let w = writes (expand_answer f out) in
-      rw (e, ← roomy f out room) (w.counts, w.shows)
+      let size : n ≡ cond (accepted (expand_answer f out)) (length (expansion_file f)) 0 = e ∙ (where_length (length_answer f) (length (expansion_file f)) ∙ ap (λ v. cond (accepted v) (length (expansion_file f)) 0) (sym (roomy f out room))) in
+      rw size (w.counts, w.shows)

@@ -5,10 +5,12 @@
 ghost use Rattle.planexpand.specs.Expansions.{ExpansionOf};
 
 use console::answers::print_answer;
-use console::fail;
-use console::streams::{Stream, write};
+use console::program::Program;
+use console::streams::write;
+use expand::{expand, expansion_length};
+use format::{open, opened_kind};
 use input::{ROOM, read_plan};
-use model::Values;
+use model::{Values, values_of};
 
 // The largest expansion's file: 32 arrays, 1,024 records.
 const LARGEST: usize = 8266;
@@ -25,32 +27,32 @@ struct Expansion {
 fn expansion_of(plan: &[u8], out: &mut [u8; LARGEST]) -> Expansion
     ensures { ExpansionOf plan.now out.old out.new result }
 {
-    let o = format::open(plan);
-    let answer = expand::expand(plan, out);
-    let length = expand::expansion_length(plan);
+    let o = open(plan);
+    let kind = opened_kind(&o);
+    let answer = expand(plan, out);
+    let length = expansion_length(plan).unwrap_or(0);
     Expansion {
-        kind: o.kind,
-        values: model::values_of(answer, 0),
-        size: length.bytes as usize,
+        kind,
+        values: values_of(answer, 0),
+        size: length as usize,
     }
 }
 
 fn main(rt: HostRuntime) {
-    let err = rt.stderr();
+    let program = Program {
+        name: "planexpand",
+        err: rt.stderr(),
+    };
     let mut room = [0u8; ROOM];
-    let input = read_plan(rt.stdin(), err, b"planexpand", &mut room);
-    if input.failed {
+    let Some(n) = read_plan(rt.stdin(), program, &mut room) else {
         return;
-    }
-    let n = input.size;
+    };
     let mut out = [0u8; LARGEST];
     let e = expansion_of(&room[..n], &mut out);
-    let size = e.size;
-    if let Err(why) = write(Stream::Out(rt.stdout()), &out[..size]) {
-        fail(err, b"planexpand", b"standard output", why);
+    if let Err(why) = write(&rt.stdout(), &out[..e.size]) {
+        program.fail(b"standard output", why);
     }
-    let values = e.values;
-    if values.number != 0 {
-        let _ = print_answer(Stream::Err(err), e.kind, values);
+    if e.values.number != 0 {
+        let _ = print_answer(program.err, e.kind, e.values);
     }
 }

@@ -2,156 +2,135 @@
 // open), the answer's number, its place, its entry; then in words what is wrong, and with which records a run would have gone on.
 #![tactic(auto)]
 
-ghost use Rattle.std.specs.Prelude.{◌+◌, ◌^◌, ◌≤◌, ◌<◌, length};
-ghost use Rattle.input.specs.Counts.{IsPrefixLen};
+ghost use Rattle.std.specs.Prelude.{◌+◌, ◌^◌, ◌≤◌, ◌<◌, length, IfSome};
 ghost use Rattle.logs.specs.Inner.Following.{Underway, Opens};
 
 use console::arguments::argument_count;
-use console::page::{Page, blank, finish};
-use console::streams::{Stream, put};
+use console::page::Page;
+use console::program::Program;
 use contents::Opened;
-use input::files::{open_argument, read_argument, read_on};
-use input::{Input, ROOM};
-use logs::refused_before;
-use model::Verdict;
+use format::opened_kind;
+use input::ROOM;
+use input::files::NamedFile;
+use logs::{Stage, plan_to_follow};
 use printing::{entry_lines, unplaced_lines};
-use stages::{Stage, first_stage, next_stage, said};
 use std::env::Env;
-use std::io::{Read, Stderr, Stdout};
+use std::io::{Read, Stdout};
 use std::rt::Files;
 
 mod printing;
-mod stages;
 
 // How many bytes are read at a time: whole entries.
 const PART: usize = 16384;
 
-type Part = [u8; PART];
-
 // More parts than a file has.
 const PARTS: u64 = 70368744177664;
 
-// Where the parts that are read have led, and the lines of a refused entry that wait in the page: 0 where the log goes on.
-#[derive(Clone, Copy)]
-struct Progress {
-    stage: Stage,
-    at: usize,
-}
-
-// What is printed where a part has led from `before` to `s`: nothing where the log goes on.
-fn part_lines(
-    page: &mut Page,
+// Where one part more leads; None where it holds a refused entry, whose lines then wait in the page. The page keeps a failure until it is finished.
+fn after_part(
+    page: &mut Page<Stdout>,
     before: Stage,
-    s: Stage,
     plan: &[u8],
     o: Opened,
     part: &[u8],
-) -> usize
-    requires { Underway plan.now o.offset before.held before.room before.cells × (before.held.read < 2 ^ 62) × Underway plan.now o.offset s.held s.room s.cells × (s.held.read < 2 ^ 63) }
+) -> Option<Stage>
+    requires { Underway plan.now o.offset before × (before.read < 2 ^ 62) × (length part.now ≤ 16384) }
+    ensures { IfSome result (λ s. Underway plan.now o.offset s × (s.read ≤ before.read + 8192)) }
 {
-    let l = said(s, plan, o.offset as usize);
-    let v = l.verdict;
-    let Verdict::Accepted = v else {
-        return entry_lines(page, before, plan, o, part, l);
-    };
-    0
-}
-
-// After one part more. Behind a refused entry nothing counts but how many bytes there are.
-fn after_part(page: &mut Page, p: Progress, plan: &[u8], o: Opened, part: &[u8]) -> Progress
-    requires { Underway plan.now o.offset p.stage.held p.stage.room p.stage.cells × (p.stage.held.read < 2 ^ 62) × (length part.now ≤ 16384) }
-    ensures { Underway plan.now o.offset result.stage.held result.stage.room result.stage.cells × (result.stage.held.read ≤ p.stage.held.read + 8192) }
-{
-    if p.at != 0 {
-        return p;
+    let bodies = usize::from(o.offset);
+    let mut s = before;
+    s.follow(plan, bodies, part);
+    let l = s.conclude(plan, bodies);
+    if l.verdict.is_err() {
+        let _ = entry_lines(page, before, plan, o, part, l);
+        return None;
     }
-    let before = p.stage;
-    let s = next_stage(before, plan, o.offset as usize, part);
-    let at = part_lines(page, before, s, plan, o, part);
-    Progress { stage: s, at: at }
+    Some(s)
 }
 
-// What is printed at the end of the log, where the lines of a refused entry wait in the page, or none.
-fn last_lines(page: &mut Page, at: usize, o: Opened, odd: bool) -> usize {
-    if (at != 0) & !odd {
-        return at;
+// What is printed at the end of the log: the lines of a refused entry, which wait in the page, or those of an answer that names no entry.
+fn last_lines(page: &mut Page<Stdout>, o: Opened, goes_on: bool, odd: bool) {
+    if goes_on || odd {
+        page.clear();
+        let v = plan_to_follow(Ok(o), odd).map(|_| ());
+        let _ = unplaced_lines(page, o.kind, v);
     }
-    unplaced_lines(page, o.kind, refused_before(o, odd))
 }
 
-// Reads the next part of the log file that the second argument names.
-fn read_part<R: Env, F: Read>(rt: &R, err: Stderr, log: &mut F, part: &mut Part) -> Input
-    ensures { IsPrefixLen result.size part.new × (result.size ≤ 16384) }
-{
-    read_on(rt, err, b"planlog", 2, b"log file", log, part)
-}
-
-// What is printed of the log file that the second argument names; nothing where it cannot be read to its end.
+// Puts into the page what is printed of a log file; None where it cannot be read to its end. Behind a refused entry nothing counts but how many bytes
+// there are.
 fn log_lines<R: Env, F: Read>(
     rt: &R,
-    err: Stderr,
-    page: &mut Page,
+    page: &mut Page<Stdout>,
     plan: &[u8],
     o: Opened,
+    named: NamedFile,
     log: &mut F,
-) -> usize
+) -> Option<()>
     requires { Opens plan.now o }
 {
     let mut part = [0u8; PART];
-    let mut p = Progress {
-        stage: first_stage(plan, o),
-        at: 0,
-    };
-    let mut k = 0u64;
-    while k < PARTS {
-        let input = read_part(rt, err, log, &mut part);
-        if input.failed {
-            return 0;
+    let mut stage = Some(Stage::first(plan, o));
+    for _k in 0..PARTS {
+        let n = named.read_on(rt, log, &mut part)?;
+        if let Some(before) = stage {
+            stage = after_part(page, before, plan, o, &part[..n]);
         }
-        let n = input.size;
-        p = after_part(page, p, plan, o, &part[..n]);
         if n < PART {
-            return last_lines(page, p.at, o, n % 2 == 1);
+            last_lines(page, o, stage.is_some(), n % 2 == 1);
+            return Some(());
         }
-        k += 1;
     }
-    0
+    None
 }
 
 // Prints the answer to a plan and that log file.
-fn answer<R: Env, F: Read>(rt: &R, out: Stdout, err: Stderr, plan: &[u8], log: &mut F) {
-    let mut page = blank(Stream::Out(out));
-    let o = format::open(plan);
-    let v = refused_before(o, false);
-    let Verdict::Accepted = v else {
-        let refused = unplaced_lines(&mut page, o.kind, v);
-        finish(err, b"planlog", &page, refused);
-        return;
-    };
-    let at = log_lines(rt, err, &mut page, plan, o, log);
-    finish(err, b"planlog", &page, at);
+fn answer<R: Env, F: Read>(rt: &R, out: Stdout, plan: &[u8], named: NamedFile, log: &mut F) {
+    let mut page = Page::new(out);
+    let opened = format::open(plan);
+    match plan_to_follow(opened, false) {
+        Ok(o) => {
+            if let Some(()) = log_lines(rt, &mut page, plan, o, named, log) {
+                page.finish(named.program);
+            }
+        }
+        Err(fault) => {
+            let _ = unplaced_lines(&mut page, opened_kind(&opened), Err(fault));
+            page.finish(named.program);
+        }
+    }
 }
 
-// The same of the plan file that the first argument names.
-fn log_files<R: Env + Files>(rt: &R, out: Stdout, err: Stderr) {
+// The same of the plan file that the first argument names and the log file that the second names.
+fn log_files<R: Env + Files>(rt: &R, out: Stdout, program: Program) {
+    let plan_file = NamedFile {
+        program,
+        argument: 1,
+        what: "plan file",
+    };
+    let log_file = NamedFile {
+        program,
+        argument: 2,
+        what: "log file",
+    };
     let mut plan = [0u8; ROOM];
-    let input = read_argument(rt, err, b"planlog", 1, b"plan file", &mut plan);
-    if input.failed {
-        return;
-    }
-    let Some(log) = open_argument(rt, err, b"planlog", 2, b"log file") else {
+    let Some(n) = plan_file.read(rt, &mut plan) else {
         return;
     };
-    let mut log = log;
-    let n = input.size;
-    answer(rt, out, err, &plan[..n], &mut log);
+    if let Some(log) = log_file.open(rt) {
+        let mut log = log;
+        answer(rt, out, &plan[..n], log_file, &mut log);
+    }
 }
 
 fn main(rt: HostRuntime) {
-    let err = rt.stderr();
+    let program = Program {
+        name: "planlog",
+        err: rt.stderr(),
+    };
     if argument_count(&rt) == 3 {
-        log_files(&rt, rt.stdout(), err);
-        return;
+        log_files(&rt, rt.stdout(), program);
+    } else {
+        program.put(b"usage: planlog PLAN LOG\n");
     }
-    put(err, b"usage: planlog PLAN LOG\n");
 }

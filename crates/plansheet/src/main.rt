@@ -2,63 +2,59 @@
 // and so on to N, and last how many pass.
 #![tactic(auto)]
 
-use console::answers::refusal;
-use console::arguments::{NO_NUMBER, argument_count, number_argument};
-use console::page::{Page, blank, filled, finish, print, text};
-use console::streams::{Stream, put};
-use model::{Verdict, values_of};
+use console::answers::Refusal;
+use console::arguments::{argument_count, number_argument};
+use console::page::Page;
+use console::program::Program;
+use model::Fault;
 use sheet::{FIGURES, sheet};
-use std::env::Env;
-use std::io::{Stderr, Stdout};
-
-// Figure i, behind a space where it is not the first.
-fn figure(page: &mut Page, at: usize, i: usize, k: u64) -> usize {
-    if i == 0 {
-        return filled(page, at, b"#", &[k]);
-    }
-    filled(page, at, b" #", &[k])
-}
+use std::fmt;
+use std::fmt::Write;
+use std::io::Stdout;
 
 // The figures of a sheet as a line.
-fn line(page: &mut Page, figures: &[u64]) -> usize {
-    let mut at = 0;
-    let mut i = 0;
-    while i < figures.len() {
-        at = figure(page, at, i, figures[i]);
-        i += 1;
+fn line(page: &mut impl Write, figures: &[u64]) -> fmt::Result {
+    for (i, k) in figures.iter().enumerate() {
+        if i == 0 {
+            write!(page, "{k}")?;
+        } else {
+            write!(page, " {k}")?;
+        }
     }
-    text(page, at, b"\n")
+    page.write_str("\n")
 }
 
-// Prints the figures for sequences of length n, or says on standard error why there are none.
-fn answer(out: Stdout, err: Stderr, n: u64) {
+// Prints the figures as a line.
+fn print_line(out: Stdout, program: Program, figures: &[u64]) {
+    let mut page = Page::new(out);
+    // The page keeps a failure until it is finished.
+    let _ = line(&mut page, figures);
+    page.finish(program);
+}
+
+// Says on standard error why there are none.
+fn refuse(program: Program, fault: Fault) {
+    let mut page = Page::new(program.err);
+    let _ = writeln!(page, "plansheet: {}", Refusal(fault));
+    let _ = page.print();
+}
+
+// Prints the figures for sequences of length n, or says why there are none.
+fn answer(out: Stdout, program: Program, n: u64) {
     let mut figures = [0u64; FIGURES];
-    let v = sheet(n, &mut figures);
-    let Verdict::Accepted = v else {
-        let mut page = blank(Stream::Err(err));
-        let at = refusal(&mut page, 0, b"plansheet: # ", values_of(v, 0));
-        let _ = print(&page, at);
-        return;
-    };
-    let mut page = blank(Stream::Out(out));
-    let end = (n as usize) + 1;
-    let at = line(&mut page, &figures[..end]);
-    finish(err, b"plansheet", &page, at);
-}
-
-// Whether the arguments are as they should be, one number. Where they are not it says so on standard error.
-fn arguments_fit(env: &impl Env, err: Stderr, n: u64) -> bool {
-    if (argument_count(env) == 2) & (n != NO_NUMBER) {
-        return true;
+    match sheet(n, &mut figures) {
+        Ok(()) => print_line(out, program, &figures[..n as usize + 1]),
+        Err(fault) => refuse(program, fault),
     }
-    put(err, b"usage: plansheet N (0 to 24)\n");
-    false
 }
 
 fn main(rt: HostRuntime) {
-    let err = rt.stderr();
-    let n = number_argument(&rt, 1);
-    if arguments_fit(&rt, err, n) {
-        answer(rt.stdout(), err, n);
+    let program = Program {
+        name: "plansheet",
+        err: rt.stderr(),
+    };
+    match (argument_count(&rt), number_argument(&rt, 1)) {
+        (2, Some(n)) => answer(rt.stdout(), program, n),
+        _ => program.put(b"usage: plansheet N (0 to 24)\n"),
     }
 }

@@ -14,7 +14,7 @@ use Rattle.reading.specs.declared.Fields.{Fields}
 use Rattle.reading.specs.Bytes.{body_count, records_in, declarations_in, fields_at, nests, first_arm, second_arm, turns_of}
 use Rattle.reading.proofs.Tables.{next_record}
 use Rattle.rules.specs.Rules.{fields_fit}
-use Rattle.contents.specs.Inner.Findings.{found}
+use Rattle.contents.specs.Found.{found}
 use Rattle.format.specs.Plans.{pass_at}
 use Rattle.format.specs.Inner.Walks.{Walkable, block_between, body0_between}
 use Rattle.format.proofs.Walking.{opened_facts, good_parts, steps}

@@ -2,8 +2,7 @@
 use mathlib.Core.Path.{◌≡◌, refl}
 use mathlib.Core.List.{List, [], ◌∷◌}
 use Prim.Native.Nat.{ℕ}
-use Rattle.model.specs.declared.Verdict.{Verdict}
-use Rattle.model.specs.declared.Verdict.TheVariants.{Accepted, Refused}
+use Rattle.model.specs.Verdicts.{Verdict, Accepted, Refused}
 use Rattle.model.specs.Blocks.{Block}
 use Rattle.model.specs.Judging.{Pass}
 use Rattle.model.specs.Rows.{answer_of}

@@ -5,7 +5,7 @@ use Prim.Native.Nat.{ℕ, suc, ◌+◌, ◌*◌, max, ◌≤◌}
 use native.Mathlib.Nat.{one-mul, mul_assoc, mul-le-mul_left, le-max_left, le-max_right}
 use native.Mathlib.Omega.{arith}
 use borrow.Author.Tests.{ltb-false}
-use Rattle.model.specs.declared.Verdict.TheVariants.{Accepted}
+use Rattle.model.specs.Verdicts.{Accepted}
 use Rattle.model.specs.Sides.{Side}
 use Rattle.model.specs.Records.{Action}
 use Rattle.model.specs.Blocks.{Block, size, largest, ◌then◌, numbered}

@@ -7,8 +7,7 @@ use native.Mathlib.Nat.{mul-one}
 use native.Mathlib.Omega.{arith}
 use lib.Dec.{eqb, ltb}
 use borrow.Author.Tests.{eq-eqb, ne_eqb}
-use Rattle.model.specs.declared.Verdict.{Verdict}
-use Rattle.model.specs.declared.Verdict.TheVariants.{Accepted, Refused}
+use Rattle.model.specs.Verdicts.{Verdict, Accepted, Refused}
 use Rattle.model.specs.Blocks.{Block, largest}
 use Rattle.model.specs.Judging.{Pass}
 use Rattle.model.specs.Rows.{Row, row, answer_of}

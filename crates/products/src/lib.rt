@@ -6,7 +6,7 @@ ghost use Rattle.model.specs.Blocks.{largest};
 ghost use Rattle.model.specs.Rows.{answer_of};
 ghost use Rattle.reading.specs.Bytes.{body_count, records_in};
 ghost use Rattle.reading.specs.Inner.Places.{Inside};
-ghost use Rattle.contents.specs.Inner.Findings.{found};
+ghost use Rattle.contents.specs.Found.{found};
 ghost use Rattle.format.specs.Plans.{declared_plan_of};
 ghost use Rattle.format.specs.Inner.Walks.{block_between, body0_between};
 ghost use Rattle.sizes.specs.Inner.Sizes.{DeclaredFile};
@@ -14,18 +14,11 @@ ghost use Rattle.products.specs.Products.{call_rows};
 ghost use Rattle.products.specs.Inner.Counts.{Within, Counted, too_many};
 
 use contents::Opened;
-use model::Verdict;
+use model::{Fault, Verdict};
 use passes::extent_of;
 use reading::kinds::{CALL, MOST_PRODUCT};
 use reading::{Fields, first_arm, record_at, second_arm, turns_of};
 use sizes::body0_end;
-
-// The larger of two numbers.
-fn larger(a: usize, b: usize) -> usize
-    ensures { result ≡ max a b }
-{
-    if a < b { b } else { a }
-}
 
 // The largest product of the counts of fixed loops along a nesting of the records from `from` up to `end`.
 fn largest(plan: &[u8], bodies: usize, from: usize, end: usize) -> usize
@@ -34,13 +27,14 @@ fn largest(plan: &[u8], bodies: usize, from: usize, end: usize) -> usize
 {
     let mut most: usize = 1;
     let mut r = from;
+    // Not a range: a step is a record with its arms.
     while r < end {
         let x = record_at(plan, bodies, r);
         let second = r + 1 + first_arm(x);
         let next = second + second_arm(x);
         let one = largest(plan, bodies, r + 1, second);
         let two = largest(plan, bodies, second, next);
-        most = larger(turns_of(x) * larger(one, two), most);
+        most = most.max(turns_of(x) * one.max(two));
         r = next;
     }
     most
@@ -70,27 +64,22 @@ fn calls_between(plan: &[u8], o: Opened, around: usize, from: usize, end: usize)
     ensures { result ≡ answer_of (call_rows (declared_plan_of plan.now).passes around (body0_between plan.now from end)) }
 {
     let mut r = from;
+    // Not a range: a step is a record with its arms.
     while r < end {
         let x = record_at(plan, o.offset as usize, r);
         if too_many(plan, o, around, x) {
-            return Verdict::Refused(26, r as u16);
+            return Err(Fault::Refused(26, r as u16));
         }
         let second = r + 1 + first_arm(x);
         let next = second + second_arm(x);
         let within = around * turns_of(x);
         if r + 1 < next {
-            let one = calls_between(plan, o, within, r + 1, second);
-            let Verdict::Accepted = one else {
-                return one;
-            };
-            let two = calls_between(plan, o, within, second, next);
-            let Verdict::Accepted = two else {
-                return two;
-            };
+            calls_between(plan, o, within, r + 1, second)?;
+            calls_between(plan, o, within, second, next)?;
         }
         r = next;
     }
-    Verdict::Accepted
+    Ok(())
 }
 
 // Number 26 of all calls of body 0.
@@ -98,6 +87,5 @@ pub fn all_calls(plan: &[u8], o: Opened) -> Verdict
     requires { DeclaredFile plan.now × (o ≡ found plan.now) }
     ensures { result ≡ answer_of (call_rows (declared_plan_of plan.now).passes 1 (declared_plan_of plan.now).body0) }
 {
-    let end = body0_end(o);
-    calls_between(plan, o, 1, 0, end)
+    calls_between(plan, o, 1, 0, body0_end(o))
 }

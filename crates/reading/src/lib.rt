@@ -1,11 +1,12 @@
 // Reading a plan file: its bytes, its numbers of two bytes, the fields of a record.
 #![tactic(auto)]
 
-ghost use Rattle.std.specs.Prelude.{◌≡◌, ◌+◌, ◌*◌, ◌≤◌, ◌<◌, length, get_or};
-ghost use Rattle.reading.specs.Bytes.{byte_at, u16_at, length_at, scratch_at, entry_at, bodies_at, fields_at, nests, first_arm, second_arm, turns_of};
+ghost use Rattle.std.specs.Prelude.{◌≡◌, ◌+◌, ◌*◌, ◌≤◌, ◌<◌, length, get_or, eqb, leb};
+ghost use Rattle.reading.specs.Bytes.{byte_at, u16_at, length_at, scratch_at, entry_at, bodies_at, fields_at, between, nests, first_arm, second_arm, turns_of};
+ghost use Rattle.reading.specs.Kinds.{number_of};
 ghost use Rattle.reading.specs.Inner.Cells.{from_of, to_of, step_of};
 
-use kinds::{BRANCH, COPY, FIXED, LOOP, SCRATCH, STARTS};
+use kinds::{Kind, SCRATCH, STARTS};
 
 pub mod kinds;
 
@@ -20,11 +21,41 @@ pub struct Fields {
     pub q: u16,
 }
 
+impl Fields {
+    // Whether it is of this kind.
+    pub fn is(self, kind: Kind) -> bool
+        ensures { result ≡ eqb self.kind (number_of kind) }
+    {
+        self.kind == kind as u8
+    }
+
+    // Whether its kind is at most 3: of a record that is allowed, whether its cells are P up to Q of the array.
+    pub fn names_cells(self) -> bool
+        ensures { result ≡ leb self.kind 3 }
+    {
+        self.kind <= Kind::Copy as u8
+    }
+
+    // Whether its kind is at most 5: of a record that is allowed, whether it acts on cells, and has neither arms nor a body nor calls one.
+    pub fn acts(self) -> bool
+        ensures { result ≡ leb self.kind 5 }
+    {
+        self.kind <= Kind::Mark as u8
+    }
+
+    // Whether it declares how a pass uses an array.
+    pub fn declares(self) -> bool
+        ensures { result ≡ between 16 18 self.kind }
+    {
+        self.is(Kind::R) | self.is(Kind::W) | self.is(Kind::RW)
+    }
+}
+
 // The byte at a place, zero past the end.
 pub fn byte(s: &[u8], at: usize) -> u8
     ensures { result ≡ byte_at s.now at }
 {
-    if at < s.len() { s[at] } else { 0 }
+    s.get(at).copied().unwrap_or(0)
 }
 
 // A byte of the header, in a plan that has its contents.
@@ -43,14 +74,7 @@ pub fn entry_at(plan: &[u8], body: usize) -> usize
     ensures place { result ≡ entry_at plan.now body }
     ensures low { result < 2048 }
 {
-    4 + 2 * (byte(plan, 1) as usize) + 4 * body
-}
-
-// A byte as a number of two bytes.
-fn wide(b: u8) -> u16
-    ensures { (result ≡ b) × (result < 256) }
-{
-    b as u16
+    4 + 2 * usize::from(byte(plan, 1)) + 4 * body
 }
 
 // The number of two bytes at a place inside the plan, the low byte first.
@@ -59,7 +83,7 @@ pub fn number_at(plan: &[u8], at: usize) -> u16
     requires { at + 2 ≤ length plan.now }
     ensures { result ≡ u16_at plan.now at }
 {
-    wide(plan[at]) + wide(plan[at + 1]) * 256
+    u16::from_le_bytes([plan[at], plan[at + 1]])
 }
 
 // The length of an array whose entry stands inside the plan: without the bit that marks scratch.
@@ -101,7 +125,7 @@ pub fn record_at(plan: &[u8], bodies: usize, r: usize) -> Fields
 pub fn nests(x: Fields) -> bool
     ensures { result ≡ nests x }
 {
-    (BRANCH <= x.kind) & (x.kind <= LOOP) | (x.kind == FIXED)
+    x.is(Kind::Branch) | x.is(Kind::Loop) | x.is(Kind::Fixed)
 }
 
 // How many records the first arm has, none where the kind has no such arm.
@@ -110,7 +134,7 @@ pub fn first_arm(x: Fields) -> usize
     ensures arm { result ≡ first_arm x }
     ensures low { result < 65536 }
 {
-    if nests(x) { x.p as usize } else { 0 }
+    if nests(x) { usize::from(x.p) } else { 0 }
 }
 
 // How many records the second arm has.
@@ -119,7 +143,11 @@ pub fn second_arm(x: Fields) -> usize
     ensures arm { result ≡ second_arm x }
     ensures low { result < 65536 }
 {
-    if x.kind == BRANCH { x.q as usize } else { 0 }
+    if x.is(Kind::Branch) {
+        usize::from(x.q)
+    } else {
+        0
+    }
 }
 
 // How many turns a fixed loop has; any other record counts 1.
@@ -128,7 +156,11 @@ pub fn turns_of(x: Fields) -> usize
     ensures turns { result ≡ turns_of x }
     ensures low { result < 65536 }
 {
-    if x.kind == FIXED { x.q as usize } else { 1 }
+    if x.is(Kind::Fixed) {
+        usize::from(x.q)
+    } else {
+        1
+    }
 }
 
 // The cells of a record: the first, the one after the last, and how far apart they are.
@@ -139,31 +171,23 @@ pub struct Span {
     pub step: usize,
 }
 
-// A number of two bytes as a place.
-fn place(n: u16) -> usize
-    ensures { (result ≡ n) × (result < 65536) }
-{
-    n as usize
-}
-
 // The first cell of a record with the fields x, whose array begins at cell `first`: P for kinds 1 to 3, else the array's first.
 pub fn first_cell(x: Fields, first: u16) -> usize
     ensures { result ≡ from_of x first }
 {
-    if x.kind <= COPY {
-        return place(first) + place(x.p);
-    }
-    place(first)
+    let at = if x.names_cells() { x.p } else { 0 };
+    usize::from(first) + usize::from(at)
 }
 
 // The cell after its last, where the array ends before cell `next`.
 pub fn next_cell(x: Fields, first: u16, next: u16) -> usize
     ensures { result ≡ to_of x first next }
 {
-    if x.kind <= COPY {
-        return place(first) + place(x.q);
+    if x.names_cells() {
+        usize::from(first) + usize::from(x.q)
+    } else {
+        usize::from(next)
     }
-    place(next)
 }
 
 // How far apart its cells are.
@@ -171,13 +195,11 @@ pub fn step_of(x: Fields) -> usize
     ensures step { result ≡ step_of x }
     ensures low { (1 ≤ result) × (result < 256) }
 {
-    if COPY < x.kind {
-        return 1;
+    if x.names_cells() {
+        usize::from(x.step.max(1))
+    } else {
+        1
     }
-    if x.step <= 1 {
-        return 1;
-    }
-    x.step as usize
 }
 
 // Which cells a record with the fields x covers. `starts` has the first cell of each array, and after the last array the number of cells.
@@ -187,7 +209,7 @@ pub fn cells_of(x: Fields, starts: &[u16; STARTS]) -> Span
     ensures to { result.to ≡ to_of x (get_or starts.now x.array 0) (get_or starts.now (x.array + 1) 0) }
     ensures step { result.step ≡ step_of x }
 {
-    let a = x.array as usize;
+    let a = usize::from(x.array);
     let first = starts[a];
     let next = starts[a + 1];
     Span {

@@ -6,8 +6,7 @@ use Prim.Native.Nat.{ℕ, zero, suc, ◌+◌, ◌*◌, ◌≤◌, ◌<◌}
 use native.Mathlib.Omega.{arith}
 use lib.ListN.{get_or}
 use borrow.Author.Tests.{lt-ltb, le-ltb}
-use Rattle.model.specs.declared.Verdict.{Verdict}
-use Rattle.model.specs.declared.Verdict.TheVariants.{Accepted}
+use Rattle.model.specs.Verdicts.{Verdict, Accepted}
 use Rattle.model.specs.Rows.{answer_of}
 use Rattle.reading.specs.Bytes.{body_count, records_in, fields_at, nests, first_arm, second_arm, turns_of}
 use Rattle.rules.specs.Rules.{record_rows}

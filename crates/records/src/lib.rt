@@ -2,12 +2,12 @@
 #![tactic(auto)]
 
 ghost use Rattle.std.specs.Prelude.{◌≡◌, ℕ, ◌+◌, ◌≤◌};
-ghost use Rattle.model.specs.declared.Verdict.TheVariants.{Accepted};
+ghost use Rattle.model.specs.Verdicts.{Accepted};
 ghost use Rattle.model.specs.Rows.{answer_of, all_rows};
 ghost use Rattle.reading.specs.Bytes.{body_count, declarations_in, first_record};
 ghost use Rattle.reading.specs.Inner.Places.{Inside};
 ghost use Rattle.contents.specs.Contents.{front_rows};
-ghost use Rattle.contents.specs.Inner.Findings.{found};
+ghost use Rattle.contents.specs.Found.{found};
 ghost use Rattle.records.specs.Records.{block_rows, body_rows};
 
 use contents::Opened;
@@ -30,30 +30,22 @@ pub fn block(
     ensures { (fuel : ℕ) → end ≤ from + fuel → result ≡ answer_of (block_rows fuel plan.now body depth around from end) }
 {
     let mut r = from;
+    // A record's step is the length of its arms, so this is no `for`.
     while r < end {
         let x = record_at(plan, bodies, r);
-        let tested = record_tests(plan, body, until, depth, around, end, r, x);
-        let Verdict::Accepted = tested else {
-            return tested;
-        };
+        record_tests(plan, body, until, depth, around, end, r, x)?;
         if nests(x) {
             let second = r + 1 + first_arm(x);
             let next = second + second_arm(x);
             let within = around * turns_of(x);
-            let one = block(plan, bodies, body, until, depth + 1, within, r + 1, second);
-            let Verdict::Accepted = one else {
-                return one;
-            };
-            let two = block(plan, bodies, body, until, depth + 1, within, second, next);
-            let Verdict::Accepted = two else {
-                return two;
-            };
+            block(plan, bodies, body, until, depth + 1, within, r + 1, second)?;
+            block(plan, bodies, body, until, depth + 1, within, second, next)?;
             r = next;
         } else {
             r += 1;
         }
     }
-    Verdict::Accepted
+    Ok(())
 }
 
 // Numbers 8 to 10 and 26 of every body of a file in which none of 1 to 7 holds and o was found.
@@ -61,20 +53,14 @@ pub fn all_records(plan: &[u8], o: Opened) -> Verdict
     requires { (Accepted ≡ answer_of (front_rows plan.now)) × (o ≡ found plan.now) }
     ensures { result ≡ answer_of (all_rows (body_count plan.now) (body_rows plan.now)) }
 {
-    let offset = o.offset as usize;
-    let bodies = o.bodies as usize;
+    let offset = usize::from(o.offset);
     let starts = o.body_starts;
     let declarations = o.declarations;
-    let mut b: usize = 0;
-    while b < bodies {
-        let from = starts[b] as usize;
-        let end = starts[b + 1] as usize;
-        let until = from + (declarations[b] as usize);
-        let v = block(plan, offset, b, until, 0, 1, from, end);
-        let Verdict::Accepted = v else {
-            return v;
-        };
-        b += 1;
+    for b in 0..usize::from(o.bodies) {
+        let from = usize::from(starts[b]);
+        let end = usize::from(starts[b + 1]);
+        let until = from + usize::from(declarations[b]);
+        block(plan, offset, b, until, 0, 1, from, end)?;
     }
-    Verdict::Accepted
+    Ok(())
 }

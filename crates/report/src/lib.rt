@@ -5,16 +5,16 @@ ghost use Rattle.std.specs.Prelude.{◌≡◌};
 ghost use Rattle.report.specs.Reports.{ending_of, nothing, ReportOf};
 ghost use Rattle.run.specs.Running.{lent};
 
-use model::{End, Tally, Values, Verdict};
+use model::{End, Fault, Tally, Values};
 use reading::kinds::CELLS;
 
 // No plan has more cells.
 pub type Memory = [u64; CELLS];
 
-// How a run ended; a refused one has not begun.
+// How a run ended, with the figures of one that is done; a refused one has not begun.
 #[derive(Clone, Copy)]
 pub enum Ending {
-    Done,
+    Done(End),
     Stopped,
     Spent,
     Refused,
@@ -25,24 +25,18 @@ pub enum Ending {
 pub struct Report {
     pub ending: Ending,
     pub values: Values,
-    pub end: End,
     pub tally: Tally,
 }
 
 // How a run with this answer ended.
-fn ending_of(v: Verdict) -> Ending
-    ensures { result ≡ ending_of v }
+fn ending_of(answer: Result<End, Fault>) -> Ending
+    ensures { result ≡ ending_of answer }
 {
-    match v {
-        Verdict::Accepted => Ending::Done,
-        Verdict::Stopped(_, _) => Ending::Stopped,
-        Verdict::Refused(number, _) => {
-            if number == 22 {
-                Ending::Spent
-            } else {
-                Ending::Refused
-            }
-        }
+    match answer {
+        Ok(end) => Ending::Done(end),
+        Err(Fault::Stopped(_, _)) => Ending::Stopped,
+        Err(Fault::Refused(22, _)) => Ending::Spent,
+        Err(Fault::Refused(_, _)) => Ending::Refused,
     }
 }
 
@@ -62,13 +56,9 @@ pub fn report_of(
         moved: 0,
     };
     let counted = run::run(plan, host, card, latest, choices, nothing);
-    let end = counted.end;
-    let tally = counted.tally;
-    let verdict = end.verdict;
     Report {
-        ending: ending_of(verdict),
-        values: model::values_of(verdict, 21),
-        end: end,
-        tally: tally,
+        ending: ending_of(counted.end),
+        values: model::values_of(counted.end.map(|_| ()), 21),
+        tally: counted.tally,
     }
 }

@@ -6,7 +6,7 @@ ghost use Rattle.model.specs.Rows.{answer_of};
 ghost use Rattle.reading.specs.Bytes.{array_count, length_at, declarations_in, first_record, bodies_at, fields_at};
 ghost use Rattle.rules.specs.Rules.{fields_fit, acts_or_nests, allowed, deepest, record_rows};
 
-use model::Verdict;
+use model::{Fault, Verdict};
 use reading::kinds::{
     BRANCH, CALL, COPY, DECLARED_DEPTH, FIXED, LOOP, MARK, MOST_PRODUCT, MOST_TURNS, NEED, PLAIN,
     PLAIN_DEPTH, R, READ, RW, W, WRITE,
@@ -19,9 +19,10 @@ fn array_size(plan: &[u8], arrays: u8, a: u8) -> u16
     ensures { a < array_count plan.now → result ≡ length_at plan.now a }
 {
     if a < arrays {
-        return length_at(plan, a as usize);
+        length_at(plan, usize::from(a))
+    } else {
+        0
     }
-    0
 }
 
 // Number 8: whether each field keeps its rule.
@@ -30,7 +31,7 @@ pub fn fields_fit(plan: &[u8], x: Fields) -> bool
     ensures { result ≡ fields_fit plan.now x }
 {
     let arrays = header_byte(plan, 1);
-    let bodies = header_byte(plan, 2);
+    let bodies = u16::from(header_byte(plan, 2));
     let on_side = x.side < 2;
     let on_array = x.array < arrays;
     let names_none = (x.side == 0) & (x.array == 0);
@@ -44,7 +45,7 @@ pub fn fields_fit(plan: &[u8], x: Fields) -> bool
         NEED | MARK | R | W | RW => on_side & on_array & no_step & (x.p == 0) & (x.q == 0),
         BRANCH => names_none & no_step,
         LOOP => names_none & no_step & (x.q == 0),
-        CALL => names_none & no_step & (x.q == 0) & (1 <= x.p) & (x.p < (bodies as u16)),
+        CALL => names_none & no_step & (x.q == 0) & (1 <= x.p) & (x.p < bodies),
         FIXED => names_none & no_step & ((1 <= x.q) & (x.q <= MOST_TURNS)),
         0 | 10..=15 | 19..=255 => true,
     }
@@ -105,21 +106,21 @@ pub fn record_tests(
 {
     let place = r as u16;
     if !fields_fit(plan, x) {
-        return Verdict::Refused(8, place);
+        return Err(Fault::Refused(8, place));
     }
     if !kind_allowed(plan, body, until, r, x) {
-        return Verdict::Refused(9, place);
+        return Err(Fault::Refused(9, place));
     }
     if !nests(x) {
-        return Verdict::Accepted;
+        return Ok(());
     }
     let next = r + 1 + first_arm(x) + second_arm(x);
     let limit = deepest(plan);
     if (end < next) | (limit < depth) {
-        return Verdict::Refused(10, place);
+        return Err(Fault::Refused(10, place));
     }
     if MOST_PRODUCT < around * turns_of(x) {
-        return Verdict::Refused(26, place);
+        return Err(Fault::Refused(26, place));
     }
-    Verdict::Accepted
+    Ok(())
 }

@@ -1,30 +1,32 @@
 -- After the run: the memories hold its last configuration, and the answer is that of its ending.
 use mathlib.Core.Path.{◌≡◌, refl, sym, ap, ◌∙◌}
-use mathlib.Core.Bool.{Bool, false}
 use mathlib.Core.List.{List, ◌++◌}
 use Prim.Native.Nat.{ℕ, ◌+◌, ◌-◌, ◌≤◌, ◌<◌}
 use native.Mathlib.Decide.{dec_lt}
 use native.Mathlib.Omega.{arith}
 use lib.ListN.{length, get_or, drop, length-append, length-drop, length-map, get_or-append}
 use lib.Seq.{get_or-append-add, get_or-drop, ext_get_or}
-use Rattle.model.specs.declared.Verdict.{Verdict}
-use Rattle.model.specs.declared.Verdict.TheVariants.{Accepted, Stopped, Refused}
+use Rattle.std.specs.Prelude.{Option, None, Some, IsSomeAnd, Result, Ok, Err, IsOkAnd, MatchResult}
+use Rattle.model.specs.declared.Fault.{Fault}
+use Rattle.model.specs.Verdicts.{Verdict, Accepted, where_accepted}
+use Rattle.model.proofs.Verdicts.{where_accepts, where_faulty}
+use Rattle.contents.specs.declared.Opened.{Opened}
+use Rattle.contents.specs.Found.{found}
 use Rattle.model.specs.declared.Tally.{Tally}
 use Rattle.model.specs.Sides.{host, card, Layout, cell_count}
 use Rattle.model.specs.Runs.{Config, finished, stopped, out_of_choices, Ending, step, Step, proper}
 use Rattle.model.specs.Rows.{answer_of}
 use Rattle.reading.specs.Bytes.{table, layout_of, lengths_of}
 use Rattle.format.specs.Plans.{plan_of}
-use Rattle.model.proofs.Rows.{unaccepted}
 use Rattle.reading.proofs.Tables.{length_table, getD_table, arrays_counted}
 use Rattle.format.proofs.Walking.{opened_facts}
 use Rattle.memories.proofs.Masks.{mask_fits}
 use Rattle.model.specs.declared.End.{End}
-use Rattle.run.specs.Running.{Lent, lent, run_rows, memory, holding, no_end, end_of, Ran, Runs}
+use Rattle.run.specs.Running.{Lent, lent, run_rows, memory, holding, end_of, verdict_of, Ran, Runs}
 use Rattle.standing.specs.Choices.{choices_of}
 use Rattle.memories.specs.Memories.{number_of}
 use Rattle.memories.specs.Inner.Ranges.{Same}
-use Rattle.standing.specs.Inner.Standing.{Runner, said_of, Stands, Over, Reaches}
+use Rattle.standing.specs.Inner.Standing.{Runner, said_of, Stands, Ended, Reaches}
 use Rattle.run.specs.Inner.Ending.{end_with}
 
 -- a memory whose first n cells are as `held` says and whose others are as they were
@@ -46,9 +48,9 @@ module _ (n : ℕ) (held : ℕ → ℕ) (before after : List ℕ) (room : n ≤ 
   memory_is = ext_get_or 0 after (table held n ++ drop n before) size (λ c h. entry c)
 
 -- a run that has ended, from memories h, c and l and a tally t
-module _ (f choices : List ℕ) (m : Runner) (own others latest : List ℕ) (u : Tally) (w : Reaches f choices m own others latest u) (still : m.running ≡ false)
+module _ (f choices : List ℕ) (m : Runner) (own others latest : List ℕ) (u : Tally) (w : Reaches f choices m own others latest u)
     (h c l : List ℕ) (t : Tally) (sh : Same (cell_count (layout_of f)) h own) (sc : Same (cell_count (layout_of f)) c others) (sl : Same (cell_count (layout_of f)) l latest)
-    (answer : End) (q : answer ≡ end_with (length (lengths_of f)) (λ a. (w.config.state.flags a).flag host) (λ a. (w.config.state.flags a).flag card) m.place.used m.verdict) where
+    (answer : Result End Fault) (q : IsSomeAnd m.verdict (λ v. answer ≡ end_with (length (lengths_of f)) (λ a. (w.config.state.flags a).flag host) (λ a. (w.config.state.flags a).flag card) m.place.used v)) where
   abbrev k : Config
   k = w.config
 
@@ -69,35 +71,40 @@ module _ (f choices : List ℕ) (m : Runner) (own others latest : List ℕ) (u :
   unfolding plan_of
   ran_as e s a = record { config = k; ending = e; ends = record { run = w.run; last = s }; holds = last_lent; answers = a }
 
-  pub ran : Ran f choices (lent h c l t) (lent own others latest u) answer
-  ran = go over.ending over.last (q ∙ ap (end_with (length layout.lengths) (λ a. (k.state.flags a).flag host) (λ a. (k.state.flags a).flag card) m.place.used) over.says)
-    where
-      over : Over f k m.verdict
-      over = rw still at w.ended
+  -- what is answered at a verdict
+  abbrev said : Verdict → Result End Fault
+  said = end_with (length layout.lengths) (λ a. (k.state.flags a).flag host) (λ a. (k.state.flags a).flag card) m.place.used
 
-      go : (e : Ending) → step proper layout k ≡ Step.ends e → answer ≡ end_with (length layout.lengths) (λ a. (k.state.flags a).flag host) (λ a. (k.state.flags a).flag card) m.place.used (said_of e) → Ran f choices (lent h c l t) (lent own others latest u) answer
-      go finished s a = ran_as finished s (a ∙ ap (λ v. end_with (length layout.lengths) (λ a. (k.state.flags a).flag host) (λ a. (k.state.flags a).flag card) v Accepted) used_is)
-      go (stopped r d) s a = ran_as (stopped r d) s a
-      go (out_of_choices r) s a = ran_as (out_of_choices r) s a
+  ran_at : (e : Ending) → step proper layout k ≡ Step.ends e → answer ≡ said (said_of e) → Ran f choices (lent h c l t) (lent own others latest u) answer
+  ran_at finished s a = ran_as finished s (a ∙ ap (λ n. end_with (length layout.lengths) (λ a. (k.state.flags a).flag host) (λ a. (k.state.flags a).flag card) n Accepted) used_is)
+  ran_at (stopped r d) s a = ran_as (stopped r d) s a
+  ran_at (out_of_choices r) s a = ran_as (out_of_choices r) s a
+
+  pub ran : Ran f choices (lent h c l t) (lent own others latest u) answer
+  ran = go m.verdict w.ended q
+    where
+      go : (o : Option Verdict) → Ended f k o → IsSomeAnd o (λ v. answer ≡ said v) → Ran f choices (lent h c l t) (lent own others latest u) answer
+      go None over a = absurd a
+      go (Some v) over a = ran_at over.ending over.last (a ∙ ap said over.says)
 
 -- where it stands its flags fit masks of 32 bits: a plan has no more arrays
-pub flags_fit : {f choices own others latest : List ℕ} {m : Runner} {t : Tally} {k : Config} → Stands f choices m own others latest t k → (m.flags < 4294967296) × (m.others < 4294967296)
+pub flags_fit : {f choices own others latest : List ℕ} {m : Runner} {t : Tally} {k : Config} → Stands f choices m own others latest t k → (m.host_flags < 4294967296) × (m.card_flags < 4294967296)
 flags_fit {f = f} w =
     let n : length (lengths_of f) ≤ 32 = rw (arrays_counted f) (opened_facts f w.plain.opens).bounds.header.arrays.1 in
     (rw w.holds.own_flags (mask_fits _ _ n), rw w.holds.others_flags (mask_fits _ _ n))
 
--- a refusal before the run
+-- a refusal before the run, or none
 module _ (f choices : List ℕ) (b : Lent) where
-  pub runs_refused : (v : Verdict) → (v ≡ Accepted → ⊥) → v ≡ answer_of (run_rows f choices b) → (answer : End) → answer ≡ no_end v → Runs f choices b b answer
+  pub runs_refused : (e : Fault) → Err e ≡ where_accepted (answer_of (run_rows f choices b)) (found f) → (answer : Result End Fault) → answer ≡ Err e → Runs f choices b b answer
   unfolding Runs
-  runs_refused v nay e answer a = rw (← e, unaccepted v nay) (refl, a)
+  runs_refused e h answer a = rw (← where_faulty _ _ _ h) (refl, a)
 
-  pub runs_ran : Accepted ≡ answer_of (run_rows f choices b) → (after : Lent) (answer : End) → Ran f choices b after answer → Runs f choices b after answer
+  pub runs_ran : (o : Opened) → Ok o ≡ where_accepted (answer_of (run_rows f choices b)) (found f) → (after : Lent) (answer : Result End Fault) → Ran f choices b after answer → Runs f choices b after answer
   unfolding Runs
-  runs_ran e after answer r = rw (← e) r
+  runs_ran o e after answer r = rw (← (where_accepts _ _ _ e).0) r
 
--- a verdict that is not accepted comes without figures
-pub end_refused : (n : ℕ) (on_host on_card : ℕ → Bool) (used : ℕ) (v : Verdict) → (v ≡ Accepted → ⊥) → no_end v ≡ end_with n on_host on_card used v
-end_refused n on_host on_card used Accepted nay = absurd (nay refl)
-end_refused n on_host on_card used (Stopped r c) nay = refl
-end_refused n on_host on_card used (Refused number place) nay = refl
+-- what `map` gives where it drops the figures of an answer
+pub verdict_mapped : (answer : Result End Fault) (v : Verdict) (P : End → Unit → Type 0) → MatchResult answer (λ x. IsOkAnd v (P x)) (λ e. v ≡ Err e) → v ≡ verdict_of answer
+verdict_mapped (Ok x) (Ok u) P h = refl
+verdict_mapped (Ok x) (Err e) P h = absurd h
+verdict_mapped (Err e) v P h = h

@@ -1,12 +1,11 @@
 -- The run of a plan file (document 01, 'Running and viewing' and 'Numbers by the place where each is checked').
-use Rattle.std.specs.Prelude.{ℕ, ◌-◌, ◌≤◌, ◌≡◌, Bool, cond, not, ◌||◌, List, [], ◌∷◌, ◌++◌, ltb, length, drop}
-use Rattle.model.specs.declared.Verdict.{Verdict}
-use Rattle.model.specs.declared.Verdict.TheVariants.{Accepted, Refused}
+use Rattle.std.specs.Prelude.{ℕ, ◌-◌, ◌≤◌, ◌≡◌, Bool, not, ◌||◌, List, [], ◌∷◌, ◌++◌, ltb, length, drop, Result, Ok, Err}
+use Rattle.model.specs.declared.Fault.{Fault}
+use Rattle.model.specs.Verdicts.{Verdict, Accepted}
 use Rattle.model.specs.declared.Tally.{Tally}
 use Rattle.model.specs.Lists.{how_many}
 use Rattle.model.specs.Sides.{host, card, Layout, cell_count}
 use Rattle.model.specs.Runs.{Config, Ending, finished, stopped, out_of_choices, Ends, tally}
-use Rattle.model.specs.Verdicts.{accepted, stopped_at}
 use Rattle.model.specs.Rows.{Row, row, answer_of}
 use Rattle.reading.specs.Bytes.{is_plain, table, layout_of}
 use Rattle.format.specs.Opening.{open_rows}
@@ -54,37 +53,40 @@ holding layout k before =
       tally = tally layout k.history;
     }
 
--- an answer without the figures of a run that is done
-abbrev pub no_end : Verdict → End
-no_end v = record { verdict = v; used = 0; host_flags = 0; card_flags = 0; on_host = 0; on_card = 0 }
-
 -- "21 stopped (record and lowest unmet cell); 22 choices spent (record)"; "The end answers done, with the choices used, both sets of flags
 -- and the number of arrays current on each side by their flags."
-abbrev pub end_of : Layout → List Bool → Config → Ending → End
+abbrev pub end_of : Layout → List Bool → Config → Ending → Result End Fault
 end_of layout cs k finished =
     let n = length layout.lengths in
-    record {
-      verdict = Accepted;
+    Ok (record {
       used = length cs - length k.choices;
       host_flags = mask n (λ a. (k.state.flags a).flag host);
       card_flags = mask n (λ a. (k.state.flags a).flag card);
       on_host = how_many (λ a. (k.state.flags a).flag host) n;
       on_card = how_many (λ a. (k.state.flags a).flag card) n;
-    }
-end_of layout cs k (stopped r c) = no_end (stopped_at r c)
-end_of layout cs k (out_of_choices r) = no_end (Refused 22 r)
+    })
+end_of layout cs k (stopped r c) = Err (Fault.Stopped (record { 0 = r }) (record { 0 = c }))
+end_of layout cs k (out_of_choices r) = Err (Fault.Refused 22 r)
+
+-- an answer without the figures of a run that is done
+abbrev pub verdict_of : Result End Fault → Verdict
+verdict_of (Ok end) = Accepted
+verdict_of (Err e) = Err e
 
 -- the run ends at a configuration in one way (model, `Endings`): "At 21 and 22 memories and tally hold the state just before the named
 -- record, at done the run's last state"
-pub record Ran (f choices : List ℕ) (before after : Lent) (answer : End) : Type 0 where
+pub record Ran (f choices : List ℕ) (before after : Lent) (answer : Result End Fault) : Type 0 where
   pub config : Config
   pub ending : Ending
   pub ends : Ends (plan_of f) (choices_of choices) config ending
   pub holds : after ≡ holding (layout_of f) config before
   pub answers : answer ≡ end_of (layout_of f) (choices_of choices) config ending
 
+-- a run where no number before it holds, or the first that does, at which nothing has changed
+abbrev pub RunsWhere : Verdict → List ℕ → List ℕ → Lent → Lent → Result End Fault → Type 0
+RunsWhere (Ok _) f choices before after answer = Ran f choices before after answer
+RunsWhere (Err e) f choices before after answer = (after ≡ before) × (answer ≡ Err e)
+
 -- the promise of the run: what is left in the memories and the tally, and the answer; "Numbers 1 to 17, 19 and 20 change no buffer"
-unfoldable pub Runs : List ℕ → List ℕ → Lent → Lent → End → Type 0
-Runs f choices before after answer =
-    let refusal = answer_of (run_rows f choices before) in
-    cond (accepted refusal) (Ran f choices before after answer) ((after ≡ before) × (answer ≡ no_end refusal))
+unfoldable pub Runs : List ℕ → List ℕ → Lent → Lent → Result End Fault → Type 0
+Runs f choices before after answer = RunsWhere (answer_of (run_rows f choices before)) f choices before after answer

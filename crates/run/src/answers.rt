@@ -1,79 +1,61 @@
 // The answers of a run: the numbers before it, and what its end answers.
-ghost use Rattle.std.specs.Prelude.{◌≡◌, Bool, ℕ, ◌≤◌, ◌<◌};
+ghost use Rattle.std.specs.Prelude.{◌≡◌, Bool, ℕ, ◌≤◌, ◌<◌, IsSome, IsSomeAnd};
 ghost use Rattle.model.specs.declared.Tally.{Tally};
 ghost use Rattle.model.specs.Rows.{answer_of};
+ghost use Rattle.model.specs.Verdicts.{where_accepted};
+ghost use Rattle.contents.specs.Found.{found};
 ghost use Rattle.format.specs.Opening.{opened};
 ghost use Rattle.memories.specs.Flags.{mask};
-ghost use Rattle.run.specs.Running.{lent, run_rows, no_end};
+ghost use Rattle.run.specs.Running.{lent, run_rows};
 ghost use Rattle.run.specs.Inner.Ending.{end_with};
 
 use contents::Opened;
 use memories::flags::flags_set;
-use model::{End, Verdict};
+use model::{End, Fault};
 use reading::kinds::{CHOICES, PLAIN};
 use standing::Machine;
 
-// Numbers 1 to 11, 19, 20 and 26, of a plan file that opening has found to be o.
+// What opening has found in a plan file of which the run may begin, or the first of numbers 1 to 11, 19, 20 and 26.
+#[tactic(auto, using(crate::proofs::Begins::ready_unopened, crate::proofs::Begins::ready_other_kind))]
 pub fn ready(
     plan: &[u8],
-    o: Opened,
+    o: Result<Opened, Fault>,
     host: &[u64],
     card: &[u64],
     latest: &[u64],
     choices: &[u8],
-) -> Verdict
+) -> Result<Opened, Fault>
     requires { o ≡ opened plan.now }
-    ensures { (t : Tally) → result ≡ answer_of (run_rows plan.now choices.now (lent host.now card.now latest.now t)) }
+    ensures { (t : Tally) → result ≡ where_accepted (answer_of (run_rows plan.now choices.now (lent host.now card.now latest.now t))) (found plan.now) }
 {
-    let v = o.verdict;
-    let Verdict::Accepted = v else {
-        return v;
-    };
+    let o = o?;
     if o.kind != PLAIN {
-        return Verdict::Refused(11, 0);
+        return Err(Fault::Refused(11, 0));
     }
     let n = o.cells as usize;
     if (host.len() < n) | (card.len() < n) | (latest.len() < n) {
-        return Verdict::Refused(19, 0);
+        return Err(Fault::Refused(19, 0));
     }
     if CHOICES < choices.len() {
-        return Verdict::Refused(20, 0);
+        return Err(Fault::Refused(20, 0));
     }
-    Verdict::Accepted
-}
-
-// An answer without figures.
-pub fn no_end(v: Verdict) -> End
-    ensures { result ≡ no_end v }
-{
-    End {
-        verdict: v,
-        used: 0,
-        host_flags: 0,
-        card_flags: 0,
-        on_host: 0,
-        on_card: 0,
-    }
+    Ok(o)
 }
 
 // What the end of a run answers.
-pub fn end_of(m: Machine) -> End
-    requires { (m.place.used ≤ 65536) × (m.flags < 4294967296) × (m.other_flags < 4294967296) }
-    ensures { (n : ℕ) (host card : ℕ → Bool) → m.flags ≡ mask n host → m.other_flags ≡ mask n card → result ≡ end_with n host card m.place.used m.verdict }
+pub fn end_of(m: Machine) -> Result<End, Fault>
+    requires { IsSome m.verdict × (m.place.used ≤ 65536) × (m.host_flags < 4294967296) × (m.card_flags < 4294967296) }
+    ensures { (n : ℕ) (host card : ℕ → Bool) → m.host_flags ≡ mask n host → m.card_flags ≡ mask n card → IsSomeAnd m.verdict (λ v. result ≡ end_with n host card m.place.used v) }
 {
-    let v = m.verdict;
-    let Verdict::Accepted = v else {
-        return no_end(v);
-    };
+    m.verdict.unwrap()?;
     let p = m.place;
-    let host = m.flags as u32;
-    let card = m.other_flags as u32;
-    End {
-        verdict: Verdict::Accepted,
+    let host_flags = m.host_flags as u32;
+    let card_flags = m.card_flags as u32;
+    Ok(End {
         used: p.used as u32,
-        host_flags: host,
-        card_flags: card,
-        on_host: flags_set(host),
-        on_card: flags_set(card),
-    }
+        host_flags,
+        card_flags,
+        on_host: flags_set(host_flags),
+        on_card: flags_set(card_flags),
+    })
 }

@@ -5,9 +5,9 @@ ghost use Rattle.std.specs.Prelude.{◌≡◌};
 ghost use Rattle.format.specs.Opening.{opened};
 ghost use Rattle.run.specs.Running.{Runs, lent};
 
-use answers::{end_of, no_end, ready};
+use answers::{end_of, ready};
 use contents::Opened;
-use model::{End, Tally, Verdict};
+use model::{End, Fault, Tally};
 use steps::run_to_end;
 
 mod answers;
@@ -15,14 +15,14 @@ mod answers;
 // A run's answer, and what its tally has become.
 #[derive(Clone, Copy)]
 pub struct Counted {
-    pub end: End,
+    pub end: Result<End, Fault>,
     pub tally: Tally,
 }
 
-// The run of a plan file that opening has found to be o, on lent memories, the tally by value.
+// The run of a plan file that opens as o, on lent memories, the tally by value.
 pub fn run_opened(
     plan: &[u8],
-    o: Opened,
+    o: Result<Opened, Fault>,
     host: &mut [u64],
     card: &mut [u64],
     latest: &mut [u64],
@@ -32,19 +32,18 @@ pub fn run_opened(
     requires { o ≡ opened plan.now }
     ensures { Runs plan.now choices.now (lent host.old card.old latest.old tally) (lent host.new card.new latest.new result.tally) result.end }
 {
-    let v = ready(plan, o, host, card, latest, choices);
-    let Verdict::Accepted = v else {
-        return Counted {
-            end: no_end(v),
-            tally: tally,
-        };
-    };
-    let s = run_to_end(plan, o, choices, host, card, latest);
-    let m = s.machine;
-    let t = s.tally;
-    Counted {
-        end: end_of(m),
-        tally: t,
+    match ready(plan, o, host, card, latest, choices) {
+        Ok(o) => {
+            let s = run_to_end(plan, o, choices, host, card, latest);
+            Counted {
+                end: end_of(s.machine),
+                tally: s.tally,
+            }
+        }
+        Err(fault) => Counted {
+            end: Err(fault),
+            tally,
+        },
     }
 }
 

@@ -2,8 +2,7 @@
 use Rattle.std.specs.Prelude.{ℕ, zero, suc, Bool, true, false, cond, length, drop, eqb, ltb}
 use mathlib.Core.List.{List, [], ◌∷◌, ◌++◌, map, flat_map}
 use Rattle.std.proofs.Math.Option.{Option, none, some}
-use Rattle.model.specs.declared.Verdict.{Verdict}
-use Rattle.model.specs.Verdicts.{accepted}
+use Rattle.model.specs.Verdicts.{Verdict, accepted}
 use Rattle.model.specs.Rows.{row, answer_of}
 use Rattle.model.specs.Sides.{host, card}
 use Rattle.model.specs.Records.{read, write, copy, Action}

@@ -14,7 +14,7 @@ use Rattle.reading.specs.declared.Fields.{Fields}
 use Rattle.reading.specs.Bytes.{is_declared, body_count, records_in, sizes_of, first_record, record_count, bodies_at, fields_at}
 use Rattle.reading.specs.Inner.Places.{Inside}
 use Rattle.contents.specs.declared.Opened.{Opened}
-use Rattle.contents.specs.Inner.Findings.{found}
+use Rattle.contents.specs.Found.{found}
 use Rattle.contents.proofs.Found.{body_start}
 use Rattle.rules.specs.Rules.{allowed}
 use Rattle.reading.proofs.Ranges.{of_range}

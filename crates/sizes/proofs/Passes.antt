@@ -11,7 +11,7 @@ use Rattle.model.specs.Judging.{pass_of}
 use Rattle.model.specs.Inner.Declared.{no_pass}
 use Rattle.reading.specs.Bytes.{is_declared, body_count, table, records_in, declarations_in, sizes_of, first_record, fields_at, first_arm, second_arm}
 use Rattle.contents.specs.declared.Opened.{Opened}
-use Rattle.contents.specs.Inner.Findings.{found}
+use Rattle.contents.specs.Found.{found}
 use Rattle.passes.specs.declared.Extent.{Extent}
 use Rattle.passes.specs.Inner.Passes.{extent_of, PassAt}
 use Rattle.passes.proofs.Records.{stands}

@@ -5,7 +5,7 @@ ghost use Rattle.std.specs.Prelude.{◌≡◌, ◌+◌, ◌≤◌, ◌<◌, get_
 ghost use Rattle.model.specs.Blocks.{size};
 ghost use Rattle.reading.specs.Bytes.{body_count, records_in, bodies_at};
 ghost use Rattle.reading.specs.Inner.Places.{Inside};
-ghost use Rattle.contents.specs.Inner.Findings.{found};
+ghost use Rattle.contents.specs.Found.{found};
 ghost use Rattle.files.specs.Inner.Given.{given_by, declared_from};
 ghost use Rattle.sizes.specs.Inner.Sizes.{DeclaredFile, called, record_size, PassSizes, Places};
 
@@ -26,11 +26,9 @@ pub fn declared_size(plan: &[u8], bodies: usize, from: usize, count: usize) -> u
     requires { (from + count ≤ 1024) × Inside plan.now bodies (from + count) }
     ensures { result ≡ size (declared_from plan.now from count) }
 {
-    let mut n: u32 = 0;
-    let mut i: usize = 0;
-    while i < count {
+    let mut n = 0;
+    for i in 0..count {
         n += given_size(record_at(plan, bodies, from + i));
-        i += 1;
     }
     n
 }
@@ -50,11 +48,9 @@ pub fn pass_sizes(plan: &[u8], o: Opened) -> [u32; NAMES]
     ensures { PassSizes plan.now result }
 {
     let bodies = o.bodies as usize;
-    let mut sizes = [0u32; NAMES];
-    let mut b: usize = 1;
-    while b < bodies {
+    let mut sizes = [0; NAMES];
+    for b in 1..bodies {
         sizes[b] = pass_size(plan, o, b);
-        b += 1;
     }
     sizes
 }
@@ -66,10 +62,10 @@ pub fn record_size(plan: &[u8], bodies: usize, sizes: &[u32; NAMES], r: usize) -
 {
     let x = record_at(plan, bodies, r);
     if x.kind == CALL {
-        let p = x.p as usize;
-        return sizes[p];
+        sizes[x.p as usize]
+    } else {
+        1
     }
-    1
 }
 
 // Where each record of body 0 begins in the expansion, counted in records; the entry after the last has the expansion's size.
@@ -78,16 +74,12 @@ pub fn places(plan: &[u8], o: Opened) -> [u32; PLACES]
     ensures { Places plan.now result }
 {
     let bodies = o.offset as usize;
-    let starts = o.body_starts;
-    let end = starts[1] as usize;
     let sizes = pass_sizes(plan, o);
-    let mut places = [0u32; PLACES];
-    let mut n: u32 = 0;
-    let mut r: usize = 0;
-    while r < end {
+    let mut places = [0; PLACES];
+    let mut n = 0;
+    for r in 0..body0_end(o) {
         n += record_size(plan, bodies, &sizes, r);
-        r += 1;
-        places[r] = n;
+        places[r + 1] = n;
     }
     places
 }
@@ -97,8 +89,7 @@ pub fn body0_end(o: Opened) -> usize
     requires { get_or o.body_starts 1 0 ≤ 1024 }
     ensures { result ≡ get_or o.body_starts 1 0 }
 {
-    let starts = o.body_starts;
-    starts[1] as usize
+    o.body_starts[1] as usize
 }
 
 // How many records the expansion has.
@@ -106,6 +97,5 @@ pub fn expansion_size(o: Opened, places: &[u32; PLACES]) -> u32
     requires { get_or o.body_starts 1 0 ≤ 1024 }
     ensures { result ≡ get_or places.now (get_or o.body_starts 1 0) 0 }
 {
-    let end = body0_end(o);
-    places[end]
+    places[body0_end(o)]
 }

@@ -1,14 +1,13 @@
 // What one record does to a cell that it covers: to a status, and to a set of them.
-ghost use Rattle.std.specs.Prelude.{◌≡◌, ◌⊎◌, true, false, not, ◌≤◌, ◌<◌};
+ghost use Rattle.std.specs.Prelude.{◌≡◌, false, not, ◌≤◌, ◌<◌};
 ghost use Rattle.model.specs.Inner.Statuses.{Status, at_start};
 ghost use Rattle.format.specs.Plans.{side_of, verb_of};
 ghost use Rattle.statuses.specs.Inner.Sets.{statuses, index, In, touched_met, touched_after};
 ghost use Rattle.statuses.specs.Inner.Ran.{Ran};
 
-use crate::sets::{EMPTY, dropped, lowest, only, union};
-
-// Stands for no record.
-pub const NONE: u16 = 65535;
+use crate::sets::Statuses;
+use crate::stops::Lowest;
+use model::Record;
 
 // The status of a cell at the start: host copy current, host flag set; of scratch neither copy current, no flag set.
 pub fn start_of(scratch: bool) -> usize
@@ -17,14 +16,15 @@ pub fn start_of(scratch: bool) -> usize
     if scratch { 0 } else { 10 }
 }
 
-// The statuses that can be reached, and the lowest record at which the cell can stop, NONE if there is none.
+// The statuses that can be reached, and the lowest record at which the cell can stop, if there is one.
 #[derive(Clone, Copy)]
 pub struct Found {
-    pub set: u16,
-    pub low: u16,
+    pub set: Statuses,
+    pub low: Lowest,
 }
 
 // The status after a record that covers the cell: a row for each kind from 1 and side, and in it four bits for each status before.
+// One number a row: as an array of arrays the table has 16 numbers in place of each, and reads no plainer.
 const AFTER: [u64; 10] = [
     0xfedcba9876543210,
     0xfedcba9876543210,
@@ -61,27 +61,20 @@ fn leaf(kind: u8, side: u8, w: usize) -> Step
     }
 }
 
-// The lowest stop, with record k too where it stops the cell.
-fn lowered(low: u16, stops: bool, k: u16) -> u16
-    ensures { (result ≤ low) × ((result ≡ low) ⊎ ((result ≡ k) × (stops ≡ true))) × (stops ≡ true → result ≤ k) }
-{
-    if stops & (k < low) { k } else { low }
-}
-
-// Record k of this kind, 1 to 5, on this side, and each status of a cell that it covers.
-pub fn acted(t: Found, kind: u8, side: u8, k: u16) -> Found
-    requires { (1 ≤ kind) × (kind ≤ 5) × (side ≤ 1) × (k < 65535) }
-    ensures { Ran (λ u v. touched_after (verb_of kind) (side_of side) u ≡ v) (λ u n. (k ≡ n) × (touched_met (verb_of kind) (side_of side) u ≡ false)) (In t.set) t.low result }
-{
-    let mut set = EMPTY;
-    let mut low = t.low;
-    let mut todo = t.set;
-    while todo != EMPTY {
-        let w = lowest(todo);
-        let s = leaf(kind, side, w);
-        set = union(only(s.after), set);
-        low = lowered(low, s.stops, k);
-        todo = dropped(todo, w);
+impl Found {
+    // Record k of this kind, 1 to 5, on this side, and each status of a cell that it covers.
+    pub fn acted(self, kind: u8, side: u8, k: Record) -> Found
+        requires { (1 ≤ kind) × (kind ≤ 5) × (side ≤ 1) × (k.0 < 65535) }
+        ensures { Ran (λ u v. touched_after (verb_of kind) (side_of side) u ≡ v) (λ u n. (k.0 ≡ n) × (touched_met (verb_of kind) (side_of side) u ≡ false)) (In self.set) self.low result }
+    {
+        let mut set = Statuses::EMPTY;
+        let mut stops = false;
+        for w in self.set.members() {
+            let s = leaf(kind, side, w);
+            set = Statuses::only(s.after).union(set);
+            stops = s.stops | stops;
+        }
+        let low = self.low.lowered(stops, k);
+        Found { set, low }
     }
-    Found { set: set, low: low }
 }

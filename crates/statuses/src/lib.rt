@@ -3,3 +3,4 @@
 
 pub mod acts;
 pub mod sets;
+pub mod stops;

@@ -2,11 +2,9 @@
 use mathlib.Core.Path.{◌≡◌, refl, sym, ap, ◌∙◌}
 use mathlib.Core.Bool.{true, cond, not}
 use mathlib.Core.List.{List}
-use Prim.Native.Nat.{ℕ, zero, suc, ◌+◌, ◌≤◌, ◌<◌}
-use native.Nat.{ℕᴺ_discrete}
+use Prim.Native.Nat.{ℕ, zero, suc, ◌≤◌, ◌<◌}
 use native.Mathlib.Omega.{arith}
-use lib.ListN.{length, get_or, set, replicate}
-use lib.Seq.{get_or-set_same, get_or-set_other}
+use lib.ListN.{length, get_or, replicate}
 use Rattle.model.specs.Sides.{never, at, cell_count, is_scratch}
 use Rattle.model.specs.Inner.Holders.{array_of}
 use Rattle.model.specs.Runs.{begin, here}
@@ -15,11 +13,11 @@ use Rattle.model.proofs.Stamps.{past}
 use Rattle.model.proofs.Through.{then_done}
 use Rattle.reading.specs.Bytes.{is_plain, layout_of, array_count, scratch_at, entry_at, record_count, lengths_of}
 use Rattle.contents.specs.declared.Opened.{Opened}
-use Rattle.contents.specs.Inner.Findings.{found}
+use Rattle.contents.specs.Found.{found}
 use Rattle.format.specs.Plans.{plan_of}
 use Rattle.format.specs.Inner.Walks.{Plain, Starts, block_between}
 use Rattle.reading.proofs.Tables.{arrays_counted, scratch_is}
-use Rattle.format.proofs.Walking.{verdict_is, found_is, array_start, Facts, opened_facts}
+use Rattle.format.proofs.Walking.{opens, found_is, array_start, Facts, opened_facts}
 use Rattle.format.proofs.Trees.{plain_good, plain_body}
 use Rattle.standing.specs.Choices.{choices_of}
 use Rattle.memories.specs.Memories.{number_of}
@@ -114,23 +112,16 @@ all_zero zero i = refl
 all_zero (suc n) zero = refl
 all_zero (suc n) (suc i) = all_zero n i
 
--- one entry more at the front of the room
-pub front_next : (starts room : List ℕ) (a : ℕ) → a < length room → ((i : ℕ) → i < a → get_or room i 0 ≡ get_or starts i 0) → (i : ℕ) → i < a + 1 → get_or (set room a (get_or starts a 0)) i 0 ≡ get_or starts i 0
-front_next starts room a h w i l = elim (ℕᴺ_discrete i a) [
-  | yes e ↦ rw e (get_or-set_same room a (get_or starts a 0) 0 h)
-  | no e ↦ get_or-set_other room a i (get_or starts a 0) 0 e ∙ w i (omega arith)
-]
-
 -- what opening found in a file of which the run may begin
 module _ (f : List ℕ) (o : Opened) (choices own others latest : List ℕ) (r : Ready f o choices own others latest) where
   pub ready_found : o ≡ found f
-  ready_found = found_is f o r.found (verdict_is f o r.found ∙ sym r.opens)
+  ready_found = found_is f o r.found
 
   pub ready_facts : Facts f
-  ready_facts = opened_facts f r.opens
+  ready_facts = opened_facts f (opens f o r.found)
 
   pub ready_plain : (bodies : ℕ) → bodies ≡ o.offset → Plain f bodies
-  ready_plain bodies e = record { opens = r.opens; plain = r.plain; place = e ∙ ap (λ (x : Opened). x.offset) ready_found }
+  ready_plain bodies e = record { opens = opens f o r.found; plain = r.plain; place = e ∙ ap (λ (x : Opened). x.offset) ready_found }
 
   ready_starts : Starts f o.array_starts
   ready_starts = record { first = array_start f o ready_found ready_facts.bounds }

@@ -1,7 +1,7 @@
 // The steps of a run of an opened plain plan, from the start to its end.
 #![tactic(auto)]
 
-ghost use Rattle.std.specs.Prelude.{◌≡◌, false, not, length};
+ghost use Rattle.std.specs.Prelude.{◌≡◌, not, length, IsSome};
 ghost use Rattle.model.specs.Sides.{cell_count};
 ghost use Rattle.reading.specs.Bytes.{scratch_at, layout_of};
 ghost use Rattle.memories.specs.Flags.{mask};
@@ -10,18 +10,18 @@ ghost use Rattle.standing.specs.Inner.Standing.{runner, Reaches};
 ghost use Rattle.steps.specs.Inner.Beginning.{Fronted, Counted, Zeros, first_host, first_machine, ReachesEnd, Ready};
 
 use contents::Opened;
-use known::known_at_start;
+use known::Known;
 use machine::step_lent;
 use memories::fill;
 use memories::flags::with_flag;
-use model::{Record, Tally, Verdict};
-use places::{ROOM, first_place};
+use model::{Record, Tally};
+use places::{Place, ROOM};
 use reading::kinds::STARTS;
 use reading::{length_at, scratch_at};
 use standing::{Machine, Stepped};
 
 // Stands for "never".
-const NEVER: u64 = 18446744073709551615;
+const NEVER: u64 = u64::MAX;
 
 // Puts "never" into the cells of scratch of the host's memory, in which all cells hold 0, and gives the host's flags: those of all arrays but scratch. Array by array, where
 // `first` is its first cell.
@@ -71,11 +71,7 @@ pub fn put_starts(starts: &[u16; STARTS], room: &mut [u16])
     requires { length room.old ≡ 81 }
     ensures { Fronted starts.now room.old room.new }
 {
-    let mut a = 0usize;
-    while a < 33 {
-        room[a] = starts[a];
-        a += 1;
-    }
+    room[..STARTS].copy_from_slice(starts);
 }
 
 // Before the first record, where the host's flags are these.
@@ -83,14 +79,13 @@ fn first_machine(records: u16, flags: u64, bodies: usize) -> Machine
     ensures { result ≡ first_machine records flags bodies }
 {
     Machine {
-        place: first_place(records),
-        flags: flags,
-        other_flags: 0,
-        bodies: bodies,
+        place: Place::first(records),
+        host_flags: flags,
+        card_flags: 0,
+        bodies,
         last: Record(0),
-        verdict: Verdict::Accepted,
-        running: true,
-        known: known_at_start(flags),
+        verdict: None,
+        known: Known::at_start(flags),
     }
 }
 
@@ -106,10 +101,10 @@ pub fn run_lent(
     tally: &mut Tally,
 ) -> Machine
     requires { Reaches plan.now choices.now (runner m room.old) host.old card.old latest.old tally.old }
-    ensures { Reaches plan.now choices.now (runner result room.new) host.new card.new latest.new tally.new × (result.running ≡ false) × Same (cell_count (layout_of plan.now)) host.old host.new × Same (cell_count (layout_of plan.now)) card.old card.new × Same (cell_count (layout_of plan.now)) latest.old latest.new }
+    ensures { Reaches plan.now choices.now (runner result room.new) host.new card.new latest.new tally.new × IsSome result.verdict × Same (cell_count (layout_of plan.now)) host.old host.new × Same (cell_count (layout_of plan.now)) card.old card.new × Same (cell_count (layout_of plan.now)) latest.old latest.new }
 {
     let mut n = m;
-    while n.running {
+    while n.verdict.is_none() {
         n = step_lent(n, plan, choices, host, card, latest, room, tally);
     }
     n
@@ -127,14 +122,11 @@ fn run_steps(
     t: Tally,
 ) -> Stepped
     requires { Reaches plan.now choices.now (runner m room.old) host.old card.old latest.old t }
-    ensures { Reaches plan.now choices.now (runner result.machine room.new) host.new card.new latest.new result.tally × (result.machine.running ≡ false) × Same (cell_count (layout_of plan.now)) host.old host.new × Same (cell_count (layout_of plan.now)) card.old card.new × Same (cell_count (layout_of plan.now)) latest.old latest.new }
+    ensures { Reaches plan.now choices.now (runner result.machine room.new) host.new card.new latest.new result.tally × IsSome result.machine.verdict × Same (cell_count (layout_of plan.now)) host.old host.new × Same (cell_count (layout_of plan.now)) card.old card.new × Same (cell_count (layout_of plan.now)) latest.old latest.new }
 {
-    let mut u = t;
-    let n = run_lent(m, plan, choices, host, card, latest, room, &mut u);
-    Stepped {
-        machine: n,
-        tally: u,
-    }
+    let mut tally = t;
+    let machine = run_lent(m, plan, choices, host, card, latest, room, &mut tally);
+    Stepped { machine, tally }
 }
 
 // Runs an opened plain plan to its end.
@@ -148,7 +140,7 @@ pub fn run_to_end(
 ) -> Stepped
     requires { Ready plan.now o choices.now host.old card.old latest.old }
     ensures reaches { ReachesEnd plan.now choices.now result.machine host.new card.new latest.new result.tally }
-    ensures ended { result.machine.running ≡ false }
+    ensures ended { IsSome result.machine.verdict }
     ensures host { Same (cell_count (layout_of plan.now)) host.old host.new }
     ensures card { Same (cell_count (layout_of plan.now)) card.old card.new }
     ensures latest { Same (cell_count (layout_of plan.now)) latest.old latest.new }

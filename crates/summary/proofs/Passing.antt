@@ -19,7 +19,6 @@ use Rattle.reading.specs.declared.Fields.{Fields}
 use Rattle.reading.specs.Bytes.{first_arm, second_arm, layout_of, record_count, fields_at}
 use Rattle.format.specs.Plans.{action_of}
 use Rattle.format.specs.Inner.Walks.{Plain, Walkable, block_between}
-use Rattle.format.proofs.Walking.{opened_facts}
 use Rattle.format.proofs.Trees.{is_branch, is_loop, is_fixed, is_leaf, shape, acts, block_none, block_branch, block_loop, block_fixed}
 use Rattle.format.proofs.Acts.{Here, here, after_act}
 use Rattle.lookahead.specs.Inner.Ahead.{cell_at, covers, Ahead}
@@ -69,8 +68,8 @@ module _ (f : List ℕ) (bodies : ℕ) (w : Plain f bodies) (c array offset : �
   low : (n k : ℕ) → k + n ≡ record_count f → k ≤ at k
   low zero k e =
       let z : k ≡ record_count f = omega arith in
-      let l : at k ≡ 65535 = rw z a.spare.last in
-      omega (arith, (opened_facts f w.opens).bounds.records)
+      let l : at k ≡ record_count f = rw z a.spare.last in
+      omega arith
   low (suc n) k e = elim (entry k (omega arith)) [ inl p ↦ omega (arith, p.0) | inr p ↦ omega (arith, p.0, low n (k + 1) (omega arith)) ]
 
   -- and all places up to an entry share it

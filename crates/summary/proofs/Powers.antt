@@ -15,29 +15,31 @@ use Rattle.model.specs.Blocks.{Block, done, fixed}
 use Rattle.model.proofs.Booleans.{and_out}
 use Rattle.model.proofs.Status.{Status}
 use Rattle.model.proofs.Through.{Power, Goes, Stops}
+use Rattle.std.specs.Prelude.{Option}
+use Rattle.model.specs.declared.Record.{Record}
 use Rattle.statuses.specs.declared.acts.Found.{Found}
-use Rattle.statuses.specs.Inner.Sets.{statuses, index, bit, In, Union}
+use Rattle.statuses.specs.Inner.Sets.{statuses, index, bit, In, Union, number_of}
 use Rattle.statuses.specs.Inner.Ran.{Below}
 use Rattle.statuses.proofs.Words.{no_bit}
 use Rattle.statuses.proofs.Statuses.{index_below, in_union}
 use Rattle.summary.proofs.Ways.{Found_in}
 
 -- one turn, status by status
-module _ (layout : Layout) (c : ℕ) (x : Block Action) (set low : ℕ) where
+module _ (layout : Layout) (c : ℕ) (x : Block Action) (set : ℕ) (low : Option Record) where
   -- t is what is found from the statuses of the set that are no more to do
   pub record Part (t : Found) (todo : ℕ) : Type 0 where
     pub some : (v : Status) → In t.set v → (u : Status) × In set u × Goes layout c x u v
-    pub rest : (u : Status) → In set u → In todo u ⊎ (((v : Status) → Goes layout c x u v → In t.set v) × ((r : ℕ) → Stops layout c x u r → Below t.low r))
+    pub rest : (u : Status) → In set u → In todo u ⊎ (((v : Status) → Goes layout c x u v → In t.set v) × ((r : ℕ) → Stops layout c x u r → Below (number_of t.low) r))
     pub within : (i : ℕ) → i < statuses → bit todo i ≡ true → bit set i ≡ true
-    pub lower : t.low ≤ low
-    pub named : (t.low ≡ low) ⊎ ((u : Status) × In set u × Stops layout c x u t.low)
+    pub lower : number_of t.low ≤ number_of low
+    pub named : (t.low ≡ low) ⊎ ((u : Status) × In set u × Stops layout c x u (number_of t.low))
 
   pub part_none : (t : Found) → t.set ≡ 0 → t.low ≡ low → Part t set
   part_none t es el = record {
     some = λ v e. absurd (no_bit t.set (index v) es e);
     rest = λ u e. inl e;
     within = λ i l e. e;
-    lower = omega arith;
+    lower = rw el (omega arith);
     named = inl el;
   }
 
@@ -50,7 +52,7 @@ module _ (layout : Layout) (c : ℕ) (x : Block Action) (set low : ℕ) where
       least = λ u r d s. (looked u d).1 r s;
     }
       where
-        looked : (u : Status) → In set u → ((v : Status) → Goes layout c x u v → In t.set v) × ((r : ℕ) → Stops layout c x u r → Below t.low r)
+        looked : (u : Status) → In set u → ((v : Status) → Goes layout c x u v → In t.set v) × ((r : ℕ) → Stops layout c x u r → Below (number_of t.low) r)
         looked u d = elim (m.rest u d) [ inl b ↦ absurd (no_bit todo (index u) e b) | inr p ↦ p ]
 
     pub part_more : (w : ℕ) → w < statuses → bit todo w ≡ true → (row t' : Found) (todo' : ℕ) → Found_in layout c x (λ u. index u ≡ w) t.low row →
@@ -62,7 +64,7 @@ module _ (layout : Layout) (c : ℕ) (x : Block Action) (set low : ℕ) where
       ];
       rest = rest;
       within = λ i l e. m.within i l (and_out (not (eqb i w)) (bit todo i) (sym (et i l) ∙ e)).1;
-      lower = omega (arith, m.lower, n.lower);
+      lower = rw el (omega (arith, m.lower, n.lower));
       named = elim n.named [
         | inl e ↦ elim m.named [ inl d ↦ inl (el ∙ (e ∙ d)) | inr p ↦ inr (p.0, p.1, rw (el, e) p.2) ]
         | inr p ↦ inr (p.0, here p.0 p.1, rw el p.2)
@@ -72,20 +74,20 @@ module _ (layout : Layout) (c : ℕ) (x : Block Action) (set low : ℕ) where
         here : (u : Status) → index u ≡ w → In set u
         here u q = rw q (m.within w h b)
 
-        rest : (u : Status) → In set u → In todo' u ⊎ (((v : Status) → Goes layout c x u v → In t'.set v) × ((r : ℕ) → Stops layout c x u r → Below t'.low r))
+        rest : (u : Status) → In set u → In todo' u ⊎ (((v : Status) → Goes layout c x u v → In t'.set v) × ((r : ℕ) → Stops layout c x u r → Below (number_of t'.low) r))
         rest u e = elim (m.rest u e) [
           | inl p ↦ go (eqb (index u) w) refl p
           | inr p ↦ inr (
             λ v g. (in_union es v).1 (inl (p.0 v g)),
-            λ r s. let l = p.1 r s in (omega (arith, n.lower), omega (arith, n.lower)),
+            λ r s. let l = p.1 r s in rw el (omega (arith, n.lower), omega (arith, n.lower)),
           )
         ]
           where
-            go : (d : Bool) → eqb (index u) w ≡ d → In todo u → In todo' u ⊎ (((v : Status) → Goes layout c x u v → In t'.set v) × ((r : ℕ) → Stops layout c x u r → Below t'.low r))
+            go : (d : Bool) → eqb (index u) w ≡ d → In todo u → In todo' u ⊎ (((v : Status) → Goes layout c x u v → In t'.set v) × ((r : ℕ) → Stops layout c x u r → Below (number_of t'.low) r))
             go false q p = inl (et (index u) (index_below u) ∙ rw (q, p))
             go true q p = let i = eqb-true (index u) w q in inr (
               λ v g. (in_union es v).1 (inr ((n.exits v).1 (u, i, g))),
-              λ r s. let l = n.least u r i s in (omega arith, omega arith),
+              λ r s. rw el (n.least u r i s),
             )
 
 module _ (R : Status → Status → Type 0) where
@@ -107,9 +109,9 @@ module _ (layout : Layout) (c : ℕ) (x : Block Action) (start : Found) where
   pub record Turns (i before : ℕ) (t : Found) : Type 0 where
     pub ends : (v : Status) → In t.set v ↔ Image i v
     pub earlier : (j : ℕ) → i ≡ suc j → (v : Status) → In before v ↔ Image j v
-    pub lower : t.low ≤ start.low
-    pub named : (t.low ≡ start.low) ⊎ ((m : ℕ) × (m < i) × ((w : Status) × Image m w × Stops layout c x w t.low))
-    pub least : (m : ℕ) (w : Status) (r : ℕ) → m < i → Image m w → Stops layout c x w r → Below t.low r
+    pub lower : number_of t.low ≤ number_of start.low
+    pub named : (t.low ≡ start.low) ⊎ ((m : ℕ) × (m < i) × ((w : Status) × Image m w × Stops layout c x w (number_of t.low)))
+    pub least : (m : ℕ) (w : Status) (r : ℕ) → m < i → Image m w → Stops layout c x w r → Below (number_of t.low) r
 
   pub turns_none : Turns 0 0 start
   turns_none = record {
@@ -182,7 +184,7 @@ module _ (layout : Layout) (c : ℕ) (x : Block Action) (start : Found) where
       least = least;
     }
       where
-        least : (k : ℕ) (w : Status) (r : ℕ) → k < suc i → Image k w → Stops layout c x w r → Below next.low r
+        least : (k : ℕ) (w : Status) (r : ℕ) → k < suc i → Image k w → Stops layout c x w r → Below (number_of next.low) r
         least k w r l p s = elim (dec_lt k i) [
           | yes z ↦ let b = m.least k w r z p s in (omega (arith, o.lower), omega (arith, o.lower))
           | no z ↦ let e : k ≡ i = omega arith in o.least w r ((m.ends w).1 (rw e at p)) s
@@ -221,12 +223,12 @@ module _ (layout : Layout) (c : ℕ) (x : Block Action) (start : Found) where
 
   module _ (i before : ℕ) (t next : Found) (m : Turns i before t) (o : Found_in layout c x (In t.set) t.low next) (n : ℕ) (l : i + 1 ≤ n) (y : (n - (i + 1)) % 2 ≡ 0) where
     -- one turn more, and an even number of those that are left where the sets repeat
-    pub turns_on : ((ltb 0 i && eqb next.set before) ≡ false → n ≡ i + 1) → Turns n t.set next
-    turns_on h = go (ltb 0 i && eqb next.set before) refl
+    pub turns_on : (same : Bool) → (same ≡ true → next.set ≡ before) → ((ltb 0 i && same) ≡ false → n ≡ i + 1) → Turns n t.set next
+    turns_on same s h = go (ltb 0 i && same) refl
       where
-        go : (b : Bool) → (ltb 0 i && eqb next.set before) ≡ b → Turns n t.set next
+        go : (b : Bool) → (ltb 0 i && same) ≡ b → Turns n t.set next
         go false q = rw (h q, add-one) (next_turns i before t next m o)
-        go true q = let p = and_out (ltb 0 i) (eqb next.set before) q in repeats i m (ltb-true 0 i p.0) (eqb-true next.set before p.1) l y
+        go true q = let p = and_out (ltb 0 i) same q in repeats i m (ltb-true 0 i p.0) (s p.1) l y
           where
             repeats : (i : ℕ) → Turns i before t → 0 < i → next.set ≡ before → i + 1 ≤ n → (n - (i + 1)) % 2 ≡ 0 → Turns n t.set next
             repeats zero m h e l y = absurd (omega arith)

@@ -33,7 +33,7 @@ pub record Prefix (f : List ℕ) (c from r end : ℕ) (start t : Found) : Type 0
   pub ran : Found_in (layout_of f) c before (In start.set) start.low t
 
 -- the first arm of record r
-pub body_here : (f : List ℕ) (r end i j : ℕ) (x : Fields) → x ≡ fields_at f r → i ≡ first_arm x → end ≤ record_count f → Arms f r end i j → Body f r (r + 1 + i)
+pub body_here : (f : List ℕ) (r end i j : ℕ) (x : Fields) → x ≡ fields_at f r → i ≡ first_arm x → end ≤ record_count f → Arms f r end i j → Body f (record { r = r; second = r + 1 + i })
 body_here f r end i j x e ei l a = record { ends = rw (ei, e); below = omega (arith, a.inside); walk = a.one }
 
 module _ (f : List ℕ) (c from end : ℕ) (start : Found) where

@@ -13,7 +13,7 @@ use Rattle.model.proofs.Booleans.{or_out, and_out}
 use Rattle.model.proofs.Status.{Status}
 use Rattle.model.proofs.Through.{Star, stay, more, Goes, Stops}
 use Rattle.statuses.specs.declared.acts.Found.{Found}
-use Rattle.statuses.specs.Inner.Sets.{statuses, index, bit, In, Union}
+use Rattle.statuses.specs.Inner.Sets.{statuses, index, bit, In, Union, number_of}
 use Rattle.statuses.specs.Inner.Ran.{Below}
 use Rattle.statuses.proofs.Words.{no_bit, bit_none}
 use Rattle.statuses.proofs.Statuses.{index_below, in_union}
@@ -32,10 +32,10 @@ module _ (layout : Layout) (c : ℕ) (x : Block Action) (start : Found) where
   pub record Turning (t : Found) (looked todo : ℕ) : Type 0 where
     pub begun : (u : Status) → In start.set u → In t.set u
     pub came : (v : Status) → In t.set v → Reach v
-    pub lower : t.low ≤ start.low
-    pub named : (t.low ≡ start.low) ⊎ ((w : Status) × Reach w × Stops layout c x w t.low)
+    pub lower : number_of t.low ≤ number_of start.low
+    pub named : (t.low ≡ start.low) ⊎ ((w : Status) × Reach w × Stops layout c x w (number_of t.low))
     pub goes : (u v : Status) → In looked u → Goes layout c x u v → In t.set v
-    pub least : (u : Status) (r : ℕ) → In looked u → Stops layout c x u r → Below t.low r
+    pub least : (u : Status) (r : ℕ) → In looked u → Stops layout c x u r → Below (number_of t.low) r
     pub left : (i : ℕ) → bit todo i ≡ (bit t.set i && not (bit looked i))
 
   pub turning_none : Turning start 0 start.set
@@ -93,7 +93,7 @@ module _ (layout : Layout) (c : ℕ) (x : Block Action) (start : Found) where
           | inl d ↦ m.came v d
           | inr d ↦ let p = (n.exits v).0 d in let q = here p.0 p.1 in (q.0, q.1, star_last q.2 p.2)
         ];
-        lower = omega (arith, m.lower, n.lower);
+        lower = rw el (omega (arith, m.lower, n.lower));
         named = elim n.named [
           | inl e ↦ elim m.named [ inl d ↦ inl (el ∙ (e ∙ d)) | inr p ↦ inr (p.0, p.1, rw (el, e) p.2) ]
           | inr p ↦ inr (p.0, here p.0 p.1, rw el p.2)
@@ -103,8 +103,8 @@ module _ (layout : Layout) (c : ℕ) (x : Block Action) (start : Found) where
           | inr q ↦ inl (m.goes u v q g)
         ]);
         least = λ u r e s. elim (seen u e) [
-          | inl q ↦ let l = n.least u r q s in (omega arith, omega arith)
-          | inr q ↦ let l = m.least u r q s in (omega (arith, n.lower), omega (arith, n.lower))
+          | inl q ↦ rw el (n.least u r q s)
+          | inr q ↦ let l = m.least u r q s in rw el (omega (arith, n.lower), omega (arith, n.lower))
         ];
         left = et;
       }

@@ -11,14 +11,16 @@ use Rattle.model.specs.Records.{Action, covers}
 use Rattle.model.specs.Blocks.{Block, done, act, branch, ◌then◌}
 use Rattle.model.proofs.Status.{Status}
 use Rattle.model.proofs.Through.{Goes, Stops}
+use Rattle.std.specs.Prelude.{Option}
+use Rattle.model.specs.declared.Record.{Record}
 use Rattle.statuses.specs.declared.acts.Found.{Found}
-use Rattle.statuses.specs.Inner.Sets.{statuses, index, bit, In, Union, touched_met, touched_after}
+use Rattle.statuses.specs.Inner.Sets.{statuses, index, bit, In, Union, number_of, touched_met, touched_after}
 use Rattle.statuses.specs.Inner.Ran.{Ran}
 use Rattle.statuses.proofs.Statuses.{index_below, index_one, in_union}
 use Rattle.statuses.proofs.Touched.{touched_met_in, touched_status_after}
 use Rattle.summary.proofs.Blocks.{goes_then, stops_then}
 
-module _ {G H : Status → Status → Type 0} {S T : Status → ℕ → Type 0} {from : Status → Type 0} {low : ℕ} {t : Found} where
+module _ {G H : Status → Status → Type 0} {S T : Status → ℕ → Type 0} {from : Status → Type 0} {low : Option Record} {t : Found} where
   pub ran_iff : ((u v : Status) → G u v ↔ H u v) → ((u : Status) (r : ℕ) → S u r ↔ T u r) → Ran G S from low t → Ran H T from low t
   ran_iff g s m = record {
     exits = λ v. (
@@ -26,12 +28,12 @@ module _ {G H : Status → Status → Type 0} {S T : Status → ℕ → Type 0} 
       λ p. (m.exits v).1 (p.0, p.1, (g p.0 v).1 p.2),
     );
     lower = m.lower;
-    named = elim m.named [ inl e ↦ inl e | inr p ↦ inr (p.0, p.1, (s p.0 t.low).0 p.2) ];
+    named = elim m.named [ inl e ↦ inl e | inr p ↦ inr (p.0, p.1, (s p.0 (number_of t.low)).0 p.2) ];
     least = λ u r f e. m.least u r f ((s u r).1 e);
   }
 
 -- the same statuses, named otherwise
-pub ran_from : {G : Status → Status → Type 0} {S : Status → ℕ → Type 0} {from from' : Status → Type 0} {low : ℕ} {t : Found} → ((u : Status) → from u ↔ from' u) → Ran G S from low t → Ran G S from' low t
+pub ran_from : {G : Status → Status → Type 0} {S : Status → ℕ → Type 0} {from from' : Status → Type 0} {low : Option Record} {t : Found} → ((u : Status) → from u ↔ from' u) → Ran G S from low t → Ran G S from' low t
 ran_from h m = record {
   exits = λ v. (
     λ e. let p = (m.exits v).0 e in (p.0, (h p.0).0 p.1, p.2),
@@ -54,7 +56,7 @@ start_in w set b u = (
 
 module _ (layout : Layout) (c : ℕ) where
   -- t is what is found of a block
-  abbrev pub Found_in : Block Action → (Status → Type 0) → ℕ → Found → Type 0
+  abbrev pub Found_in : Block Action → (Status → Type 0) → Option Record → Found → Type 0
   Found_in b = Ran (Goes layout c b) (Stops layout c b)
 
   pub ran_none : (t : Found) → Found_in done (In t.set) t.low t
@@ -65,7 +67,7 @@ module _ (layout : Layout) (c : ℕ) where
     least = λ u r e s. absurd s;
   }
 
-  module _ (x b : Block Action) (from : Status → Type 0) (low : ℕ) (t t' : Found) (m : Found_in x from low t) where
+  module _ (x b : Block Action) (from : Status → Type 0) (low : Option Record) (t t' : Found) (m : Found_in x from low t) where
     pub ran_then : Found_in b (In t.set) t.low t' → Found_in (x then b) from low t'
     ran_then n = record {
       exits = λ v. (
@@ -76,9 +78,9 @@ module _ (layout : Layout) (c : ℕ) where
       named = elim n.named [
         | inl e ↦ elim m.named [
           | inl d ↦ inl (e ∙ d)
-          | inr p ↦ inr (p.0, p.1, (stops_then layout c x b p.0 t'.low).1 (inl (rw e p.2)))
+          | inr p ↦ inr (p.0, p.1, (stops_then layout c x b p.0 (number_of t'.low)).1 (inl (rw e p.2)))
         ]
-        | inr p ↦ let q = (m.exits p.0).0 p.1 in inr (q.0, q.1, (stops_then layout c x b q.0 t'.low).1 (inr (p.0, q.2, p.2)))
+        | inr p ↦ let q = (m.exits p.0).0 p.1 in inr (q.0, q.1, (stops_then layout c x b q.0 (number_of t'.low)).1 (inr (p.0, q.2, p.2)))
       ];
       least = λ u r f s. elim ((stops_then layout c x b u r).0 s) [
         | inl a ↦ let l = m.least u r f a in (omega (arith, n.lower), omega (arith, n.lower))
@@ -98,7 +100,7 @@ module _ (layout : Layout) (c : ℕ) where
           | inr g ↦ inr ((n.exits v).1 (p.0, p.1, subst (Goes layout c b p.0) p.2.2 g))
         ]),
       );
-      lower = omega (arith, m.lower, n.lower);
+      lower = rw el (omega (arith, m.lower, n.lower));
       named = elim n.named [
         | inl e ↦ elim m.named [
           | inl d ↦ inl (el ∙ (e ∙ d))
@@ -108,8 +110,8 @@ module _ (layout : Layout) (c : ℕ) where
       ];
       least = λ u r f e. elim e [
         | inl a ↦ elim a [
-          | inl d ↦ let l = m.least u r f d in (omega (arith, n.lower), omega (arith, n.lower))
-          | inr d ↦ let l = n.least u r f d in (omega arith, omega arith)
+          | inl d ↦ let l = m.least u r f d in rw el (omega (arith, n.lower), omega (arith, n.lower))
+          | inr d ↦ rw el (n.least u r f d)
         ]
         | inr p ↦ absurd p.2
       ];

@@ -1,12 +1,16 @@
 -- The sums of a list from its parts: one entry more in front, and one list behind another.
-use mathlib.Core.Path.{◌≡◌, refl, sym}
+use mathlib.Core.Path.{◌≡◌, refl, sym, ◌∙◌, ap}
 use mathlib.Core.List.{List, [], ◌∷◌, ◌++◌}
-use Prim.Native.Nat.{ℕ, zero, suc, ◌≤◌, ◌<◌, ◌+◌, ◌*◌, ◌-◌}
+use Prim.Native.Nat.{ℕ, zero, suc, ◌≤◌, ◌+◌, ◌*◌}
 use native.Mathlib.Nat.{suc-mul, suc-add, zero-add}
 use native.Mathlib.Omega.{arith}
-use lib.ListN.{length, get_or, take, drop, take-append-drop}
-use lib.Seq.{drop-cons, drop-length, drop-drop, take-add}
+use Rattle.std.proofs.lemmas.List.{append_assoc, append-nil, length-append}
+use lib.ListN.{length, drop}
+use lib.Seq.{drop-append_seam, drop-length}
+use Rattle.std.specs.List.{sum}
+use Rattle.std.proofs.lemmas.List.Sums.{sum_by-cons}
 use Rattle.sums.specs.Sums.{plain_sum, weighted_sum}
+use Rattle.sums.specs.Inner.Columns.{Most}
 
 -- one number more for each entry adds the entries once
 shifted : (k : ℕ) (xs : List ℕ) → weighted_sum (suc k) xs ≡ weighted_sum k xs + plain_sum xs
@@ -19,49 +23,46 @@ shifted_by : (n k : ℕ) (xs : List ℕ) → weighted_sum (n + k) xs ≡ weighte
 shifted_by zero k xs = rw zero-add (omega arith)
 shifted_by (suc n) k xs = rw suc-add (omega (arith, shifted (n + k) xs, shifted_by n k xs, suc-mul n (plain_sum xs)))
 
--- none: the entries from the end on
-module _ (s : List ℕ) (n : ℕ) (end : length s ≡ n) where
-  pub plain_none : 0 ≡ plain_sum (drop n s)
-  unfolding plain_sum
-  plain_none = rw (← end, drop-length s)
+-- the entries that are left, and the sums of those behind them, which are taken
+pub record Passed (s left : List ℕ) (plain weighted : ℕ) : Type 0 where
+  pub whole : left ++ drop (length left) s ≡ s
+  pub plain_so_far : plain ≡ plain_sum (drop (length left) s)
+  pub weighted_so_far : weighted ≡ weighted_sum 1 (drop (length left) s)
 
-  pub weighted_none : 0 ≡ weighted_sum 1 (drop n s)
-  unfolding weighted_sum
-  weighted_none = rw (← end, drop-length s)
+-- none taken
+pub all_left : (s : List ℕ) → s ++ drop (length s) s ≡ s
+all_left s = simp (drop-length, append-nil)
 
--- one entry more in front: the entries from index i - 1 on
-module _ (s : List ℕ) (i : ℕ) (some : 0 < i) (fits : i ≤ length s) where
-  next : drop (i - 1) s ≡ get_or s (i - 1) 0 ∷ drop i s
-  next =
-      let e : suc (i - 1) ≡ i = omega arith in
-      rw e at (drop-cons s (i - 1) 0 (omega arith))
+pub passed_none : (s : List ℕ) → Passed s s 0 0
+unfolding plain_sum weighted_sum
+passed_none s = record { whole = all_left s; plain_so_far = rw (drop-length s); weighted_so_far = rw (drop-length s) }
 
-  pub plain_next : plain_sum (drop (i - 1) s) ≡ get_or s (i - 1) 0 + plain_sum (drop i s)
-  unfolding plain_sum
-  plain_next = rw next
+-- a part more taken, which is the last of those that are left
+module _ (s left t m : List ℕ) (whole : left ++ drop (length left) s ≡ s) (last : left ≡ t ++ m) where
+  pub behind_more : drop (length t) s ≡ m ++ drop (length left) s
+  behind_more = ap (drop (length t)) (sym whole ∙ (ap (λ k. k ++ drop (length left) s) last ∙ append_assoc t m (drop (length left) s))) ∙ drop-append_seam t (m ++ drop (length left) s)
 
-  pub weighted_next : weighted_sum 1 (drop (i - 1) s) ≡ plain_sum (drop (i - 1) s) + weighted_sum 1 (drop i s)
-  unfolding plain_sum weighted_sum
-  weighted_next = rw next (omega (arith, shifted 1 (drop i s)))
+  pub whole_more : t ++ drop (length t) s ≡ s
+  whole_more = ap (λ k. t ++ k) behind_more ∙ (sym (append_assoc t m (drop (length left) s)) ∙ (ap (λ k. k ++ drop (length left) s) (sym last) ∙ whole))
 
--- all: the entries from index 0 on
-pub all : (s : List ℕ) (i : ℕ) → i ≤ 0 → drop i s ≡ s
-all s i h =
-    let e : i ≡ 0 = omega arith in
-    rw e
+-- one entry more taken
+pub passed_next : (s left t : List ℕ) (x plain weighted p w : ℕ) → left ≡ t ++ (x ∷ []) → p ≡ x + plain → w ≡ p + weighted → Passed s left plain weighted → Passed s t p w
+unfolding plain_sum weighted_sum
+passed_next s left t x plain weighted p w last e f v =
+    let m = behind_more s left t (x ∷ []) v.whole last in
+    record {
+      whole = whole_more s left t (x ∷ []) v.whole last;
+      plain_so_far = rw m (omega (arith, v.plain_so_far));
+      weighted_so_far = rw m (omega (arith, v.plain_so_far, v.weighted_so_far, shifted 1 (drop (length left) s)));
+    }
 
--- a part, and what is behind it
-pub part_back : (s : List ℕ) (at end : ℕ) → at ≤ end → take (end - at) (drop at s) ++ drop end s ≡ drop at s
-part_back s at end h =
-    let e : at + (end - at) ≡ end = omega arith in
-    rw e at (rw (drop-drop (end - at) at s) at (take-append-drop (end - at) (drop at s)))
+-- no more are left than there are
+pub left_within : (s left : List ℕ) → left ++ drop (length left) s ≡ s → length left ≤ length s
+left_within s left whole = omega (arith, ap length whole, length-append left (drop (length left) s))
 
--- two parts, one behind the other
-pub part_part : (s : List ℕ) (at mid end : ℕ) → at ≤ mid → mid ≤ end → take (mid - at) (drop at s) ++ take (end - mid) (drop mid s) ≡ take (end - at) (drop at s)
-part_part s at mid end h k =
-    let e : at + (mid - at) ≡ mid = omega arith in
-    let n : mid - at + (end - mid) ≡ end - at = omega arith in
-    sym (rw n at (rw e at (rw (drop-drop (mid - at) at s) at (take-add (mid - at) (end - mid) (drop at s)))))
+-- all taken
+pub behind_all : (s left : List ℕ) → length left ≡ 0 → drop (length left) s ≡ s
+behind_all s left e = rw e
 
 -- one list behind another
 pub plain_append : (xs ys : List ℕ) → plain_sum (xs ++ ys) ≡ plain_sum xs + plain_sum ys
@@ -79,3 +80,14 @@ append_from k (x ∷ xs) ys =
 
 pub weighted_append : (xs ys : List ℕ) → weighted_sum 1 (xs ++ ys) ≡ weighted_sum 1 xs + length xs * plain_sum ys + weighted_sum 1 ys
 weighted_append xs ys = omega (arith, append_from 1 xs ys, shifted_by (length xs) 1 ys)
+
+-- the sum as the library has it, and how large it gets
+pub plain_is : (s : List ℕ) → sum s ≡ plain_sum s
+unfolding plain_sum
+plain_is [] = refl
+plain_is (x ∷ xs) = sum_by-cons (λ n. n) x xs ∙ ap (λ n. x + n) (plain_is xs)
+
+pub plain_most : (n : ℕ) (s : List ℕ) → Most n s → plain_sum s ≤ n * length s
+unfolding plain_sum
+plain_most n [] h = omega arith
+plain_most n (x ∷ xs) h = omega (arith, h 0, plain_most n xs (λ i. h (suc i)))

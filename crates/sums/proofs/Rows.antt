@@ -1,13 +1,13 @@
 -- The sums of columns: one row more in front, and how large they get.
-use mathlib.Core.Path.{◌≡◌, refl}
+use mathlib.Core.Path.{◌≡◌, refl, ap}
 use mathlib.Core.List.{List, [], ◌∷◌, ◌++◌}
 use Prim.Native.Nat.{ℕ, zero, suc, ◌≤◌, ◌<◌, ◌+◌, ◌*◌, ◌/◌, ◌%◌}
 use native.Mathlib.Omega.{arith}
-use lib.ListN.{length, get_or, take, drop, replicate, length-append}
-use lib.Seq.{get_or-drop}
+use lib.ListN.{length, get_or, drop, replicate, length-append, length-drop}
+use lib.Seq.{drop-length}
 use Rattle.sums.specs.Sums.{plain_sum, weighted_sum}
-use Rattle.sums.specs.Inner.Columns.{added, Most, triangle, RowsOf}
-use Rattle.sums.proofs.Parts.{plain_append, weighted_append}
+use Rattle.sums.specs.Inner.Columns.{added, Most, triangle, RowsOf, RoomForRow}
+use Rattle.sums.proofs.Parts.{all_left, behind_more, whole_more, left_within, plain_append, weighted_append}
 use Rattle.sums.proofs.Added.{length_added, getD_added, plain_added, weighted_added}
 
 -- no more than 22 rows
@@ -19,14 +19,16 @@ triangle_most k h = up 22 k h where
   up (suc n) (suc k) h = omega (arith, up n k (omega arith))
   up zero (suc k) h = omega arith
 
--- the bytes of a part
-pub most_part : (n m k : ℕ) (s : List ℕ) → Most k s → Most k (take n (drop m s))
-most_part n m k s h = front n (drop m s) (λ i. rw get_or-drop (h (m + i))) where
-  front : (n : ℕ) (l : List ℕ) → Most k l → Most k (take n l)
-  front zero l g i = omega arith
-  front (suc n) [] g i = omega arith
-  front (suc n) (x ∷ xs) g zero = g 0
-  front (suc n) (x ∷ xs) g (suc i) = front n xs (λ j. g (suc j)) i
+-- the numbers of a part
+module _ (n : ℕ) where
+  most_front : (xs ys : List ℕ) → Most n (xs ++ ys) → Most n xs
+  most_front [] ys h i = omega arith
+  most_front (x ∷ xs) ys h zero = h 0
+  most_front (x ∷ xs) ys h (suc i) = most_front xs ys (λ j. h (suc j)) i
+
+  most_back : (xs ys : List ℕ) → Most n (xs ++ ys) → Most n ys
+  most_back [] ys h = h
+  most_back (x ∷ xs) ys h = most_back xs ys (λ j. h (suc j))
 
 -- no row
 pub zeros : (n i : ℕ) → ◌≡◌ {A = ℕ} (get_or (replicate n 0) i 0) 0
@@ -69,3 +71,37 @@ weighted_fit x plain weighted n r i = omega (arith, r.high i, triangle_most (len
 
 pub rows_fit : (x plain weighted : List ℕ) → length x ≤ 704 → length plain ≤ length weighted → RowsOf x plain (added weighted plain) → (i : ℕ) → get_or weighted i 0 + get_or plain i 0 < 65536
 rows_fit x plain weighted n l r i = omega (arith, weighted_fit x plain (added weighted plain) n r i, getD_added weighted plain i l)
+
+-- the rows that are left, and the sums of those behind them, which are taken
+pub record RowsTaken (x left plain weighted : List ℕ) : Type 0 where
+  pub whole : left ++ drop (length left) x ≡ x
+  pub rows_left : length left % 32 ≡ 0
+  pub rows : RowsOf (drop (length left) x) plain weighted
+
+pub none_taken : (x : List ℕ) → length x % 32 ≡ 0 → RowsTaken x x (replicate 32 0) (replicate 32 0)
+none_taken x whole = record { whole = all_left x; rows_left = whole; rows = rw (drop-length x) rows_none }
+
+-- one row more taken, which is the last of those that are left
+module _ (x left t row plain weighted : List ℕ) (bytes : Most 255 x) (all : length x % 32 ≡ 0) (few : length x ≤ 704) (v : RowsTaken x left plain weighted)
+    (last : left ≡ t ++ row) (one_row : length row ≡ 32) where
+  pub row_taken : RowsTaken x t (added plain row) (added weighted (added plain row))
+  row_taken =
+      let d = drop (length left) x in
+      let low : Most 255 row = most_back 255 t row (most_front 255 (t ++ row) d (rw (← last, v.whole) bytes)) in
+      let behind : length d % 32 ≡ 0 = simp length-drop (omega (arith, left_within x left v.whole, v.rows_left)) in
+      record {
+        whole = whole_more x left t row v.whole last;
+        rows_left = omega (arith, ap length last, length-append t row, v.rows_left);
+        rows = rw (behind_more x left t row v.whole last) (rows_more row d plain weighted low one_row behind v.rows);
+      }
+
+  row_fits : (i : ℕ) → get_or weighted i 0 + get_or (added plain row) i 0 < 65536
+  row_fits = rows_fit (drop (length t) x) (added plain row) weighted (simp length-drop (omega arith)) (omega (arith, v.rows.sizes, length_added plain row)) row_taken.rows
+
+  pub row_room : RoomForRow (record { plain = plain; weighted = weighted }) row
+  row_room = record { lengths = (v.rows.sizes.0, v.rows.sizes.1, one_row); plain = λ i. omega (arith, v.rows.low i, length-drop (length left) x); weighted = row_fits }
+
+-- whole rows leave no remainder
+pub no_remainder : (x r rest : List ℕ) → x ≡ r ++ rest → length r ≡ 0 → x ≡ rest
+no_remainder x [] rest e z = e
+no_remainder x (n ∷ r) rest e z = absurd (omega arith)

@@ -1,106 +1,78 @@
 // Sums by columns: a row is 32 bytes side by side, and a column the bytes at one place of each row. All columns of a row are added at a time.
-ghost use Rattle.std.specs.Prelude.{◌≡◌, ℕ, ◌+◌, ◌^◌, ◌≤◌, ◌<◌, length, get_or};
+// The loops that write go by an index: after one over `iter_mut().zip(..)` a proof knows no more of an array than its length.
+ghost use Rattle.std.specs.Prelude.{◌≡◌, ◌^◌, ◌≤◌, length};
 ghost use Rattle.sums.specs.Sums.{plain_sum, weighted_sum};
-ghost use Rattle.sums.specs.Inner.Columns.{Most, added, Room};
+ghost use Rattle.sums.specs.Inner.Columns.{added, RoomForRow, RoomForBand};
 
 pub const ROW: usize = 32;
 
-// The step for one byte of a row: it is added to the sum of its column. The numbers of the bytes come from adding up these sums again.
-fn step(sum: u16, byte: u8) -> u16
-    requires { sum ≤ 65280 }
-    ensures { result ≡ sum + byte }
-{
-    sum + (byte as u16)
+// The sums of the columns of a band's rows: of the bytes, and of each byte times the number of its row from 1.
+#[derive(Clone, Copy)]
+pub struct Band {
+    pub plain: [u16; ROW],
+    pub weighted: [u16; ROW],
 }
 
-// Adds the bytes of a row, each to its column.
-pub fn add_row(columns: &mut [u16; ROW], row: &[u8])
-    requires { (length columns.old ≡ 32) × (length row.now ≡ 32) × Most 65280 columns.old }
-    ensures { columns.new ≡ added columns.old row.now }
-{
-    let mut i: usize = 0;
-    while i < ROW {
-        columns[i] = step(columns[i], row[i]);
-        i += 1;
+impl Band {
+    // Adds a row in front of those taken: each of them gets a number higher by one. The numbers of the bytes come from adding up the plain sums again.
+    pub fn add_row(&mut self, row: &[u8])
+        requires { RoomForRow self.old row.now }
+        ensures plain { self.new.plain ≡ added self.old.plain row.now }
+        ensures weighted { self.new.weighted ≡ added self.old.weighted (added self.old.plain row.now) }
+    {
+        for i in 0..ROW {
+            let sum = self.plain[i] + u16::from(row[i]);
+            self.plain[i] = sum;
+            self.weighted[i] += sum;
+        }
     }
 }
 
-// Adds to each column that of a second set.
-pub fn add_columns(columns: &mut [u16; ROW], more: &[u16; ROW])
-    requires { (length columns.old ≡ 32) × (length more.now ≡ 32) × ((i : ℕ) → get_or columns.old i 0 + get_or more.now i 0 < 65536) }
-    ensures { columns.new ≡ added columns.old more.now }
-{
-    let mut i: usize = 0;
-    while i < ROW {
-        columns[i] += more[i];
-        i += 1;
+// The sums of the columns of a stretch's bands: of the bytes; of each byte times the number of its row in its band, from 1; and for each band those
+// of all columns behind it.
+#[derive(Clone, Copy)]
+pub struct Bands {
+    pub columns: [u32; ROW],
+    pub rows: [u32; ROW],
+    pub behind: [u32; ROW],
+}
+
+impl Bands {
+    // Adds a band in front of those taken. One loop for all three is faster than three.
+    pub fn add_band(&mut self, band: &Band)
+        requires { RoomForBand self.old band.now }
+        ensures columns { self.new.columns ≡ added self.old.columns band.now.plain }
+        ensures rows { self.new.rows ≡ added self.old.rows band.now.weighted }
+        ensures behind { self.new.behind ≡ added self.old.behind self.old.columns }
+    {
+        for i in 0..ROW {
+            self.behind[i] += self.columns[i];
+            self.columns[i] += u32::from(band.plain[i]);
+            self.rows[i] += u32::from(band.weighted[i]);
+        }
     }
-}
-
-// A column's sum as a wider number.
-fn wide(sum: u16) -> u32
-    ensures { (result ≡ sum) × (result ≤ 65535) }
-{
-    sum as u32
-}
-
-// Adds a band's columns to those of the bands behind it, and these once more to `behind`. One loop for all three is faster than three.
-pub fn add_band(
-    columns: &mut [u32; ROW],
-    rows: &mut [u32; ROW],
-    behind: &mut [u32; ROW],
-    plain: &[u16; ROW],
-    weighted: &[u16; ROW],
-)
-    requires { Room columns.old rows.old behind.old plain.now weighted.now }
-    ensures columns { columns.new ≡ added columns.old plain.now }
-    ensures rows { rows.new ≡ added rows.old weighted.now }
-    ensures behind { behind.new ≡ added behind.old columns.old }
-{
-    let mut i: usize = 0;
-    while i < ROW {
-        behind[i] += columns[i];
-        columns[i] += wide(plain[i]);
-        rows[i] += wide(weighted[i]);
-        i += 1;
-    }
-}
-
-// A sum over bands as a wider number.
-fn wider(sum: u32) -> u64
-    ensures { (result ≡ sum) × (result ≤ 4294967295) }
-{
-    sum as u64
 }
 
 // The sum of all columns.
 pub fn total(columns: &[u32; ROW]) -> u64
-    requires { length columns.now ≡ 32 }
     ensures sum { result ≡ plain_sum columns.now }
     ensures low { result ≤ 2 ^ 37 }
 {
-    let mut sum: u64 = 0;
-    let mut i = ROW;
-    while 0 < i {
-        i -= 1;
-        sum += wider(columns[i]);
-    }
-    sum
+    columns.iter().map(|n| u64::from(*n)).sum()
 }
 
-// The sum of each column times its number from 1. From the last to the first: a column in front adds one to the number of each after it.
-pub fn numbered(columns: &[u32; ROW]) -> u64
-    requires { length columns.now ≡ 32 }
-    ensures sum { result ≡ weighted_sum 1 columns.now }
-    ensures low { result ≤ 2 ^ 42 }
+// The sum of all columns, and that of each column times its number from 1. From the last to the first: a column in front adds one to the number of
+// each after it.
+pub fn numbered(columns: &[u32; ROW]) -> (u64, u64)
+    ensures plain { result.0 ≡ plain_sum columns.now }
+    ensures sum { result.1 ≡ weighted_sum 1 columns.now }
+    ensures low { (result.0 ≤ 2 ^ 37) × (result.1 ≤ 2 ^ 42) }
 {
-    let mut plain: u64 = 0;
-    let mut weighted: u64 = 0;
-    let mut i = ROW;
-    while 0 < i {
-        i -= 1;
-        plain += wider(columns[i]);
+    let mut plain = 0;
+    let mut weighted = 0;
+    for n in columns.iter().rev() {
+        plain += u64::from(*n);
         weighted += plain;
     }
-    weighted
+    (plain, weighted)
 }

@@ -23,11 +23,7 @@ fn put(cells: &mut [u8], from: usize, to: usize, status: u8)
     requires { Room from to cells.old }
     ensures { Changed 1 from to (λ c. status) cells.old cells.new }
 {
-    let mut c = from;
-    while c < to {
-        cells[c] = status;
-        c += 1;
-    }
+    cells[from..to].fill(status);
 }
 
 // Writes the status of each cell at the start, array by array, where `first` is its first cell.
@@ -35,7 +31,7 @@ pub fn write_statuses(plan: &[u8], arrays: usize, cells: &mut [u8])
     requires { Counted plan.now arrays × (cell_count (layout_of plan.now) ≤ length cells.old) }
     ensures { Statuses (layout_of plan.now) (start (layout_of plan.now)) cells.new }
 {
-    let mut first: usize = 0;
+    let mut first = 0;
     for a in 0..arrays {
         let next = first + length_at(plan, a) as usize;
         let status = start_of(scratch_at(plan, a)) as u8;
@@ -52,9 +48,10 @@ fn touch(m: Masks, cells: &mut [u8], step: usize, from: usize, to: usize) -> boo
 {
     let mut stuck = false;
     let mut c = from;
+    // A loop over steps of a range tests twice at each cell, and is slower.
     while c < to {
         let w = cells[c];
-        stuck = stuck | stops(m, w);
+        stuck |= stops(m, w);
         cells[c] = after(m, w);
         c += step;
     }
@@ -67,9 +64,10 @@ fn touch_by(m: Masks, cells: &mut [u8], step: usize, from: usize, to: usize) -> 
     ensures { Touched m step from to cells.old cells.new result }
 {
     if step == 1 {
-        return touch(m, cells, 1, from, to);
+        touch(m, cells, 1, from, to)
+    } else {
+        touch(m, cells, step, from, to)
     }
-    touch(m, cells, step, from, to)
 }
 
 // Whether a record with the fields x, of kind 1 to 5, is stuck, where its array begins at cell `first` and ends before cell `next`. If it is not, the cells get the statuses after it.

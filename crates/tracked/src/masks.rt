@@ -39,7 +39,7 @@ pub fn masks_of(kind: u8, side: u8) -> Masks
     requires { Acting kind side }
     ensures { Tells (verb_of kind) (side_of side) result }
 {
-    let row = 2 * (kind as u64 - 1) + side as u64;
+    let row = 2 * (u64::from(kind) - 1) + u64::from(side);
     Masks {
         test: mask_at(TEST, row),
         unmet: mask_at(UNMET, row),

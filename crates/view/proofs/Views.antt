@@ -1,20 +1,22 @@
 -- The memory view: whether cells are all current, the answer by the rows, the side and the part.
-use mathlib.Core.Path.{◌≡◌, refl, sym, ap, ◌∙◌}
-use mathlib.Core.Bool.{Bool, true, false, not, cond, ◌&&◌, ◌||◌}
+use mathlib.Core.Path.{◌≡◌, refl, sym, ap}
+use mathlib.Core.Bool.{Bool, true, false, not, ◌&&◌, ◌||◌}
 use mathlib.Core.List.{List, []}
 use Prim.Native.Nat.{ℕ, zero, suc, ◌+◌, ◌*◌, ◌-◌, ◌≤◌, ◌<◌, min}
 use native.Nat.{ℕᴺ_discrete}
 use native.Mathlib.Omega.{arith}
 use lib.Dec.{ltb, leb, eqb}
 use lib.ListN.{length, get_or, take, drop}
-use borrow.Author.Tests.{eq-eqb, ne_eqb, eqb-true, eqb-false, leb-false, ltb-false}
-use Rattle.model.specs.declared.Verdict.{Verdict}
-use Rattle.model.specs.declared.Verdict.TheVariants.{Accepted, Refused}
+use borrow.Author.Tests.{eq-eqb, eqb-true, eqb-false, leb-false, ltb-false}
+use Rattle.std.specs.Prelude.{Ok, Err}
+use Rattle.model.specs.declared.Fault.{Fault}
+use Rattle.model.specs.declared.Side.{Side}
+use Rattle.model.specs.declared.Side.TheVariants.{Host, Card}
+use Rattle.model.specs.Verdicts.{Accepted, Refused}
+use Rattle.model.proofs.Verdicts.{faulty_where, found_where, where_accepts, where_faulty}
 use Rattle.model.proofs.Booleans.{or_none, and_out}
-use Rattle.model.proofs.Rows.{unaccepted, holds, skips, skipped, empty}
-use Rattle.model.specs.Verdicts.{accepted}
-use Rattle.model.specs.declared.View.{View}
-use Rattle.view.specs.Viewing.{all_current, memory_view_answer, viewed_side, viewed_place, memory_view, memory_side}
+use Rattle.model.proofs.Rows.{holds, skips, skipped, empty}
+use Rattle.view.specs.Viewing.{all_current, memory_view_answer, of_side, viewed_side, viewed_place, memory_view, memory_side}
 use Rattle.memories.specs.Inner.Ranges.{FirstStale}
 use Rattle.memories.proofs.Cells.{each}
 
@@ -75,66 +77,45 @@ module _ (host card latest : List ℕ) (from end : ℕ) where
   abbrev on_card : Bool
   on_card = all_current card latest from (end - from)
 
-  by_answer : (v : Verdict) → v ≡ memory_view_answer host card latest from end →
-      record { verdict = v; side = cond (accepted v) (viewed_side host latest from end) 0 } ≡ memory_side host card latest from end
-  unfolding memory_side
-  by_answer v e = rw e
-
   -- each answer, by the rows
-  pub view_outside : outside ≡ true → record { verdict = Refused 23 0; side = 0 } ≡ memory_side host card latest from end
-  unfolding memory_view_answer
-  view_outside o = by_answer (Refused 23 0) (holds outside 23 0 _ o)
+  pub view_outside : outside ≡ true → Err (Fault.Refused 23 0) ≡ memory_side host card latest from end
+  unfolding memory_side memory_view_answer
+  view_outside o = faulty_where _ _ _ (holds outside 23 0 _ o)
 
   module _ (o : outside ≡ false) where
-    pub view_host : on_host ≡ true → record { verdict = Accepted; side = 0 } ≡ memory_side host card latest from end
-    unfolding memory_view_answer viewed_side
-    view_host h = rw h at (by_answer Accepted (skips outside 23 0 _ Accepted o (skips (not on_host && not on_card) 24 0 _ Accepted (rw h) empty)))
+    pub view_host : on_host ≡ true → Ok Host ≡ memory_side host card latest from end
+    unfolding memory_side memory_view_answer viewed_side
+    view_host h = found_where _ _ _ (skips outside 23 0 _ Accepted o (skips (not on_host && not on_card) 24 0 _ Accepted (rw h) empty)) (rw h)
 
-    pub view_card : on_host ≡ false → on_card ≡ true → record { verdict = Accepted; side = 1 } ≡ memory_side host card latest from end
-    unfolding memory_view_answer viewed_side
-    view_card h k = rw h at (by_answer Accepted (skips outside 23 0 _ Accepted o (skips (not on_host && not on_card) 24 0 _ Accepted (rw (h, k)) empty)))
+    pub view_card : on_host ≡ false → on_card ≡ true → Ok Card ≡ memory_side host card latest from end
+    unfolding memory_side memory_view_answer viewed_side
+    view_card h k = found_where _ _ _ (skips outside 23 0 _ Accepted o (skips (not on_host && not on_card) 24 0 _ Accepted (rw (h, k)) empty)) (rw h)
 
-    pub view_stale : on_host ≡ false → on_card ≡ false → record { verdict = Refused 24 0; side = 0 } ≡ memory_side host card latest from end
-    unfolding memory_view_answer
-    view_stale h k = by_answer (Refused 24 0) (skips outside 23 0 _ (Refused 24 0) o (holds (not on_host && not on_card) 24 0 _ (rw (h, k))))
+    pub view_stale : on_host ≡ false → on_card ≡ false → Err (Fault.Refused 24 0) ≡ memory_side host card latest from end
+    unfolding memory_side memory_view_answer
+    view_stale h k = faulty_where _ _ _ (skips outside 23 0 _ (Refused 24 0) o (holds (not on_host && not on_card) 24 0 _ (rw (h, k))))
 
-  -- the answer that comes with the side
-  pub answer_of : (r : View) → r ≡ memory_side host card latest from end → r.verdict ≡ memory_view_answer host card latest from end
-  unfolding memory_side
-  answer_of r e = ap (λ (x : View). x.verdict) e
+  -- a refused view, and the part of a side's own memory, in which it lies, wherever that is
+  pub part_none : (e : Fault) → Err e ≡ memory_side host card latest from end → (Err e ≡ memory_view_answer host card latest from end) × ([] ≡ memory_view host card latest from end)
+  unfolding memory_side memory_view
+  part_none e h = let v = where_faulty _ _ _ h in (v, rw (← v))
 
-  -- the part: none, or of one side's memory, in which it lies
-  pub part_none : (v : Verdict) → (v ≡ Accepted → ⊥) → v ≡ memory_view_answer host card latest from end → [] ≡ memory_view host card latest from end
-  unfolding memory_view
-  part_none v nay e = rw (← e, unaccepted v nay)
+  module _ (s : Side) (q : Ok s ≡ memory_side host card latest from end) where
+    pub accepts : Accepted ≡ memory_view_answer host card latest from end
+    unfolding memory_side
+    accepts = (where_accepts _ _ _ q).0
 
-  module _ (e : Accepted ≡ memory_view_answer host card latest from end) where
+    side_is : s ≡ viewed_side host latest from end
+    unfolding memory_side
+    side_is = (where_accepts _ _ _ q).1
+
     pub part_inside : Inside
     unfolding memory_view_answer
-    part_inside = in_each (skipped outside 23 0 _ e).0
+    part_inside = in_each (skipped outside 23 0 _ accepts).0
 
-    module _ (r : View) (q : r ≡ memory_side host card latest from end) where
-      part_of : take (end - from) (drop from (cond (eqb r.side 0) host card)) ≡ memory_view host card latest from end
-      unfolding memory_side memory_view
-      part_of = rw (ap (λ (x : View). x.side) q, ← e)
+    pub part_of : take (end - from) (drop from (of_side s host card)) ≡ memory_view host card latest from end
+    unfolding memory_view
+    part_of = rw (side_is, ← accepts)
 
-      pub part_host : r.side ≡ 0 → take (end - from) (drop from host) ≡ memory_view host card latest from end
-      part_host s = rw (eq-eqb r.side 0 s) at part_of
-
-      pub part_card : (r.side ≡ 0 → ⊥) → take (end - from) (drop from card) ≡ memory_view host card latest from end
-      part_card s = rw (ne_eqb r.side 0 s) at part_of
-
-      -- the side's own memory, wherever the two are
-      side_of : viewed_side host latest from end ≡ r.side
-      unfolding memory_side
-      side_of = sym (ap (λ (x : View). x.side) q ∙ rw (← e))
-
-      pub place_host : (h k : ℕ × ℕ) → r.side ≡ 0 → (h.0, from * 8 + h.1) ≡ viewed_place h k (viewed_side host latest from end) from
-      place_host h k s = rw (side_of, eq-eqb r.side 0 s) (ap (λ n. (h.0, n)) (omega arith))
-
-      pub place_card : (h k : ℕ × ℕ) → (r.side ≡ 0 → ⊥) → (k.0, from * 8 + k.1) ≡ viewed_place h k (viewed_side host latest from end) from
-      place_card h k s = rw (side_of, ne_eqb r.side 0 s) (ap (λ n. (k.0, n)) (omega arith))
-
--- an accepted view lies inside every memory
-pub accepted_inside : (host card latest : List ℕ) (from end : ℕ) (r : View) → r ≡ memory_side host card latest from end → r.verdict ≡ Accepted → Inside host card latest from end
-accepted_inside host card latest from end r q e = part_inside host card latest from end (sym e ∙ answer_of host card latest from end r q)
+    pub place_of : (h k : ℕ × ℕ) → ((of_side s h k).0, from * 8 + (of_side s h k).1) ≡ viewed_place h k (viewed_side host latest from end) from
+    place_of h k = rw (← side_is) (ap (λ n. ((of_side s h k).0, n)) (omega arith))

@@ -1,18 +1,12 @@
 // The memory view: a part of whichever memory is wholly current.
 #![tactic(auto)]
 
-ghost use Rattle.std.specs.Prelude.{◌≡◌, ◌-◌, ◌≤◌, min, length};
+ghost use Rattle.std.specs.Prelude.{◌≡◌, ◌-◌, ◌≤◌, length};
+ghost use Rattle.model.specs.Verdicts.{Accepted};
 ghost use Rattle.view.specs.Viewing.{all_current, memory_view_answer, viewed_side, viewed_place, memory_view, memory_side};
 
 use memories::first_stale;
-use model::{Verdict, View};
-
-// The length of the shorter of two memories.
-fn shorter(a: usize, b: usize) -> usize
-    ensures { result ≡ min a b }
-{
-    if a < b { a } else { b }
-}
+use model::{Fault, Side, Verdict};
 
 // Whether the cells `from` up to `end` are all current in a memory.
 #[tactic(auto, using(crate::proofs::Views::no_stale))]
@@ -24,38 +18,31 @@ fn all_current(copies: &[u64], latest: &[u64], from: usize, end: usize) -> bool
 }
 
 // The side whose cells `first` up to `end` the view is, or 23 or 24.
-pub fn memory_side(host: &[u64], card: &[u64], latest: &[u64], first: u64, end: u64) -> View
+pub fn memory_side(
+    host: &[u64],
+    card: &[u64],
+    latest: &[u64],
+    first: u64,
+    end: u64,
+) -> Result<Side, Fault>
     ensures { result ≡ memory_side host.now card.now latest.now first end }
 {
-    let shortest = shorter(host.len(), shorter(card.len(), latest.len()));
+    let shortest = host.len().min(card.len().min(latest.len()));
     if (end <= first) | ((shortest as u64) < end) {
-        return View {
-            verdict: Verdict::Refused(23, 0),
-            side: 0,
-        };
+        return Err(Fault::Refused(23, 0));
     }
     let from = first as usize;
     let to = end as usize;
     if all_current(host, latest, from, to) {
-        return View {
-            verdict: Verdict::Accepted,
-            side: 0,
-        };
+        return Ok(Side::Host);
     }
     if all_current(card, latest, from, to) {
-        return View {
-            verdict: Verdict::Accepted,
-            side: 1,
-        };
+        return Ok(Side::Card);
     }
-    View {
-        verdict: Verdict::Refused(24, 0),
-        side: 0,
-    }
+    Err(Fault::Refused(24, 0))
 }
 
 // The memory view's answer: accepted, 23 or 24.
-#[tactic(auto, using(crate::proofs::Views::answer_of))]
 pub fn memory_view_answer(
     host: &[u64],
     card: &[u64],
@@ -65,12 +52,12 @@ pub fn memory_view_answer(
 ) -> Verdict
     ensures { result ≡ memory_view_answer host.now card.now latest.now first end }
 {
-    let v = memory_side(host, card, latest, first, end);
-    v.verdict
+    memory_side(host, card, latest, first, end)?;
+    Ok(())
 }
 
 // The cells `first` up to `end` as a part of the host memory if they are all current there, else of the card memory; empty where the answer refuses.
-#[tactic(auto, using(crate::proofs::Views::accepted_inside))]
+#[tactic(auto, using(crate::proofs::Views::part_inside))]
 pub fn memory_view<'a>(
     host: &'a [u64],
     card: &'a [u64],
@@ -79,17 +66,13 @@ pub fn memory_view<'a>(
     end: u64,
 ) -> &'a [u64]
     ensures cells { result.now ≡ memory_view host.now card.now latest.now first end }
-    ensures own { memory_view_answer host.now card.now latest.now first end ≡ Verdict.Accepted → result.ref_ptr ≡ viewed_place host.entry.ref_ptr card.entry.ref_ptr (viewed_side host.now latest.now first end) first }
+    ensures own { memory_view_answer host.now card.now latest.now first end ≡ Accepted → result.ref_ptr ≡ viewed_place host.entry.ref_ptr card.entry.ref_ptr (viewed_side host.now latest.now first end) first }
 {
-    let v = memory_side(host, card, latest, first, end);
-    let answer = v.verdict;
-    let Verdict::Accepted = answer else {
-        return &host[0..0];
-    };
     let from = first as usize;
     let to = end as usize;
-    if v.side == 0 {
-        return &host[from..to];
+    match memory_side(host, card, latest, first, end) {
+        Ok(Side::Host) => &host[from..to],
+        Ok(Side::Card) => &card[from..to],
+        Err(_) => &host[..0],
     }
-    &card[from..to]
 }

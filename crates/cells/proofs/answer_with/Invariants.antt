@@ -13,11 +13,11 @@ use Rattle.cells.proofs.answer_with.Given as goal
 abbrev pub invariant-loop-a : goal.invariant-loop-a
 invariant-loop-a l =
     (l.a ≤ l.arrays)
-    × (l.first ≡ (span_of (layout_of l.plan) l.a).first)
-    × Fits l.first (StopsAt (plan_of l.plan)) l.v
-    × Room l.plan l.first l.rows
+    × (l.first ≡ (span_of (layout_of l.plan.file.now) l.a).first)
+    × Fits l.first (StopsAt (plan_of l.plan.file.now)) l.v
+    × Room l.plan.file.now l.first l.rows
     × (length l.rows ≡ length l.initial.rows)
-    × Spare l.plan l.ahead
+    × Spare l.plan.file.now l.ahead
     × (length l.ahead ≡ length l.initial.ahead)
 
 abbrev pub decreases-loop-a : goal.decreases-loop-a

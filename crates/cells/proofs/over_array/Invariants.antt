@@ -10,13 +10,13 @@ use Rattle.cells.proofs.over_array.Given as goal
 
 abbrev pub invariant-loop-c : goal.invariant-loop-c
 invariant-loop-c l =
-    (l.first ≤ l.c)
-    × (l.c ≤ l.next)
-    × Fits l.c (StopsAt (plan_of l.plan)) l.v
-    × Room l.plan l.c l.rows
+    (l.cells.first ≤ l.c)
+    × (l.c ≤ l.cells.next)
+    × Fits l.c (StopsAt (plan_of l.plan.file.now)) l.v
+    × Room l.plan.file.now l.c l.rows
     × (length l.rows ≡ length l.initial.rows)
-    × Spare l.plan l.ahead
+    × Spare l.plan.file.now l.ahead
     × (length l.ahead ≡ length l.initial.ahead)
 
 abbrev pub decreases-loop-c : goal.decreases-loop-c
-decreases-loop-c l = l.next - l.c
+decreases-loop-c l = l.cells.next - l.c

@@ -1,37 +1,34 @@
 -- Few bytes in front of the back, and a stretch in front of what is behind it.
-use Rattle.std.proofs.Common.{◌≡◌, ◌-◌, length, take, drop, take-append-drop, take_all, length-take, length-drop, arith}
-use native.Mathlib.Nat.{sub-zero}
-use Rattle.sums.proofs.Parts.{part_part}
-use Rattle.check_bytes.proofs.Joins.{Joined, joined_is, joined_by, joined_none, joined_more}
+use Rattle.std.proofs.Common.{◌≡◌, refl, ◌++◌, ◌%◌, length, take-append-drop, arith, ap}
+use Rattle.check_bytes.proofs.Joins.{joined_is, joined_by, joined_more, no_stretch, stretch_rows, stretch_taken, all_stretches}
 use Rattle.check_bytes.proofs.joined_sums.Goals as goal
 
-pub loop-end-init : goal.loop-end-init
-loop-end-init c =
-    let end = c.rows_end-end.result in
-    let none : end - end ≡ 0 = omega arith in
+pub loop-x-init : goal.loop-x-init
+loop-x-init c =
+    let e : c.into_iter-x-iterator.result.rest.now ≡ c.split_at.result.0.now = cc in
+    let rows : length c.into_iter-x-iterator.result.rest.now % 32 ≡ 0 = omega (arith, ap length e, c.split_at.ensures.front_len, c.rows_end.ensures) in
     let sums = c.in_front-sums.ensures in
-    record { whole = omega arith; within = omega arith; joined = rw none (joined_none _ (omega (arith, sums.plain)) (omega (arith, sums.weighted))) }
+    record { finite = tt; size = cc; taken = no_stretch _ _ rows (omega (arith, sums.plain)) (omega (arith, sums.weighted)) }
 
-pub loop-end-preserved : goal.loop-end-preserved
-loop-end-preserved c =
-    let l = c.loop-end in
-    let front = c.args.front.now in
-    let at = c.earlier-at.result in
-    let sums = c.in_front-sums-in-loop-end.ensures in
-    let more : Joined (take (l.end - at) (drop at front)) l.sums c.in_front-sums-in-loop-end.result = joined_by _ _ _ _ _ c.stretch.ensures (simp (length-take, length-drop) (omega arith)) (sums.plain, sums.weighted) in
-    record {
-      whole = omega arith;
-      within = omega arith;
-      joined = rw (part_part front at l.end c.rows_end-end.result (omega arith) (omega arith)) at (joined_more _ _ _ _ _ l.invariant.joined more);
-    }
+pub stretch-requires : goal.stretch-requires
+stretch-requires c =
+    let v = c.loop-x.invariant in
+    let s = c.in-Some.ensures.steps in
+    stretch_rows _ _ _ _ _ _ v.taken s.1.0 (rw v.size at s.1.1)
+
+pub loop-x-preserved : goal.loop-x-preserved
+loop-x-preserved c =
+    let v = c.loop-x.invariant in
+    let s = c.in-Some.ensures.steps in
+    let sums = c.in_front-sums-in-loop-x.ensures in
+    record { finite = tt; size = cc; taken = stretch_taken _ _ _ _ _ _ v.taken s.1.0 (rw v.size at s.1.1) _ (joined_by _ _ _ _ _ c.stretch.ensures refl (sums.plain, sums.weighted)) }
 
 pub returns : goal.returns
 returns c =
-    let l = c.loop-end in
     let front = c.args.front.now in
-    let end = c.rows_end-end.result in
     let sums = c.in_front-sums.ensures in
-    let whole : take (length front - end) (drop end front) ≡ drop end front = take_all (length front - end) (drop end front) (simp length-drop (omega arith)) in
-    let behind : Joined (drop end front) c.args.back c.in_front-sums.result = joined_by (drop end front) _ (length front - end) _ _ (rw whole at c.rest.ensures) (length-drop end front) (sums.plain, sums.weighted) in
-    let z : l.end ≡ 0 = omega arith in
-    joined_is front c.args.back _ (rw (take-append-drop end front) at (joined_more _ _ _ _ _ behind (rw (z, sub-zero) at l.invariant.joined)))
+    let behind = joined_by _ _ _ _ _ c.rest.ensures refl (sums.plain, sums.weighted) in
+    let rows = all_stretches _ _ _ _ c.in-None.ensures.steps.1.0 c.loop-x.invariant.taken in
+    let e : c.into_iter-x-iterator.result.rest.now ≡ c.split_at.result.0.now = cc in
+    let whole : c.into_iter-x-iterator.result.rest.now ++ c.split_at.result.1.now ≡ front = rw (e, c.split_at.ensures.front, c.split_at.ensures.back) (take-append-drop c.rows_end.result front) in
+    joined_is front c.args.back _ (rw whole at (joined_more _ _ _ _ _ behind rows))

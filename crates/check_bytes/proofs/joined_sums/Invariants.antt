@@ -1,14 +1,11 @@
--- The sums are those of the front's bytes from `end` on, joined to those behind the rows.
-use Rattle.std.proofs.Common.{◌≡◌, ◌≤◌, ◌-◌, ◌%◌, take, drop}
-use Rattle.check_bytes.proofs.Joins.{Joined}
+-- The sums are those of the stretches taken, joined to those behind the rows.
+use Rattle.std.proofs.Common.{◌≡◌}
+use Rattle.check_bytes.proofs.Joins.{StretchesTaken}
 use Rattle.check_bytes.proofs.joined_sums.Given as goal
 
-abbrev pub invariant-loop-end : goal.invariant-loop-end
-invariant-loop-end l = record {
-  whole : l.end % 32 ≡ 0;
-  within : l.end ≤ l.initial.end;
-  joined : Joined (take (l.initial.end - l.end) (drop l.end l.front)) l.initial.sums l.sums;
+abbrev pub invariant-loop-x : goal.invariant-loop-x
+invariant-loop-x l = record {
+  finite : (goal.iterator-loop-x).is_finite l.x-iterator;
+  size : l.x-iterator.size ≡ 45056;
+  taken : StretchesTaken l.initial.x-iterator.rest.now l.x-iterator.rest.now l.initial.sums l.sums;
 }
-
-abbrev pub decreases-loop-end : goal.decreases-loop-end
-decreases-loop-end l = l.end

@@ -3,7 +3,7 @@ use Rattle.classes.proofs.Marking.{Behind}
 use Rattle.classes.proofs.mark_steps.Given as goal
 
 abbrev pub invariant-loop-c : goal.invariant-loop-c
-invariant-loop-c l = Behind l.step l.initial.c l.to l.c l.initial.m l.m
+invariant-loop-c l = Behind l.c-step l.initial.c l.c-end l.c l.initial.m l.m
 
 abbrev pub decreases-loop-c : goal.decreases-loop-c
-decreases-loop-c l = l.to - l.c
+decreases-loop-c l = l.c-end - l.c

@@ -1,9 +1,9 @@
 use mathlib.Core.Path.{◌≡◌}
 use mathlib.Core.Bool.{cond}
-use Prim.Native.Nat.{◌-◌, ◌≤◌}
+use Prim.Native.Nat.{◌≤◌}
 use lib.Dec.{leb}
 use lib.ListN.{length}
-use Rattle.model.specs.declared.Verdict.TheVariants.{Accepted}
+use Rattle.model.specs.Verdicts.{Accepted}
 use Rattle.model.specs.Sides.{span_of}
 use Rattle.model.specs.Rows.{answer_of, all_rows}
 use Rattle.reading.specs.Bytes.{table, layout_of}
@@ -12,12 +12,8 @@ use Rattle.contents.proofs.array_entries.Given as goal
 
 abbrev pub invariant-loop-a : goal.invariant-loop-a
 invariant-loop-a l =
-    (l.a ≤ l.arrays)
-    × (l.cells ≡ (span_of (layout_of l.plan) l.a).first)
+    (l.cells ≡ (span_of (layout_of l.plan) l.a).first)
     × (l.cells ≤ 4096)
     × (Accepted ≡ answer_of (all_rows l.a (array_rows l.plan)))
     × (length l.starts ≡ 33)
     × (l.starts ≡ table (λ k. cond (leb k l.a) (span_of (layout_of l.plan) k).first 0) 33)
-
-abbrev pub decreases-loop-a : goal.decreases-loop-a
-decreases-loop-a l = l.arrays - l.a

@@ -1,24 +1,16 @@
--- No promise of an entry point rests on this text: what opening gives, of a file that opens and of one that does not.
+-- No promise of an entry point rests on this text: what the entries of the contents give, of arrays, of one body, of all bodies.
 use Rattle.std.specs.Prelude.{ℕ, List}
-use Rattle.model.specs.declared.Verdict.{Verdict}
-use Rattle.model.specs.declared.Verdict.TheVariants.{Accepted}
-use Rattle.reading.specs.Bytes.{table}
-use Rattle.contents.specs.declared.Opened.{Opened}
-use Rattle.contents.specs.Found.{found_by}
+use Rattle.reading.specs.Bytes.{records_in, declarations_in}
+use Rattle.contents.specs.declared.Arrays.{Arrays}
+use Rattle.contents.specs.declared.Entry.{Entry}
+use Rattle.contents.specs.declared.Bodies.{Bodies}
+use Rattle.contents.specs.Found.{found}
 
-abbrev pub found : List ℕ → Opened
-found f = found_by f Accepted
+abbrev pub arrays_found : List ℕ → Arrays
+arrays_found f = record { cells = (found f).cells; starts = (found f).array_starts }
 
-abbrev pub nothing_found : Verdict → Opened
-nothing_found v = record {
-  verdict = v;
-  kind = 0;
-  arrays = 0;
-  bodies = 0;
-  cells = 0;
-  records = 0;
-  offset = 0;
-  array_starts = table (λ a. 0) 33;
-  body_starts = table (λ b. 0) 33;
-  declarations = table (λ b. 0) 32;
-}
+abbrev pub entry_found : List ℕ → ℕ → Entry
+entry_found f b = record { records = records_in f b; declarations = declarations_in f b }
+
+abbrev pub bodies_found : List ℕ → Bodies
+bodies_found f = record { records = (found f).records; starts = (found f).body_starts; declarations = (found f).declarations }

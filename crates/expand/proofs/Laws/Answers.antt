@@ -5,15 +5,11 @@ use Prim.Native.Nat.{ℕ, ◌<◌, ◌≤◌}
 use native.Mathlib.Omega.{arith}
 use lib.ListN.{length}
 use borrow.Author.Tests.{lt-ltb, le-ltb, ltb-false, not-false}
-use Rattle.model.specs.declared.Verdict.{Verdict}
-use Rattle.model.specs.declared.Verdict.TheVariants.{Accepted, Refused}
+use Rattle.model.specs.Verdicts.{Verdict, Accepted, Refused}
 use Rattle.model.specs.Blocks.{size, largest}
 use Rattle.model.specs.Rows.{answer_of}
-use Rattle.contents.specs.declared.Opened.{Opened}
-use Rattle.contents.specs.Inner.Findings.{found}
 use Rattle.format.specs.Plans.{declared_plan_of}
-use Rattle.format.specs.Opening.{open_rows, opening, opened}
-use Rattle.format.proofs.Walking.{verdict_is, found_is}
+use Rattle.format.specs.Opening.{open_rows, opening}
 use Rattle.model.proofs.Rows.{unaccepted, holds, skips, skipped, empty, stop, pass, passed}
 use Rattle.judge.specs.Judged.{judge_rows, judged}
 use Rattle.files.specs.Expansions.{expansion_of, expansion_file}
@@ -30,9 +26,6 @@ module _ (f : List ℕ) where
   accepted_file e =
       let p = passed (open_rows f) _ e in
       record { opened = p.0; declared = not-false _ (skipped _ _ _ _ p.1).0 }
-
-  pub accepted_found : (o : Opened) → o ≡ opened f → Accepted ≡ judged f → o ≡ found f
-  accepted_found o e a = found_is f o e (verdict_is f o e ∙ sym (accepted_file a).opened)
 
   -- 16 and 26
   pub too_large : 1024 < size (expansion_of f).body → Refused 16 0 ≡ answer_of (expansion_rows f)

@@ -1,40 +1,30 @@
 -- `expand::expansion_length` gives the answer of an output that is long enough, and how long that is.
-use mathlib.Core.Path.{◌≡◌, refl, sym, ◌∙◌}
+use mathlib.Core.Path.{refl, ◌∙◌}
 use native.Mathlib.Omega.{arith}
-use Rattle.model.specs.declared.Verdict.TheVariants.{Accepted}
-use Rattle.model.specs.Rows.{answer_of}
-use Rattle.judge.specs.Judged.{judged}
-use Rattle.expand.specs.Expanded.{expansion_rows}
-use Rattle.expand.proofs.Laws.Answers.{accepted_file, accepted_found, both_passed}
+use Rattle.model.proofs.Verdicts.{faulty, handed}
+use Rattle.format.proofs.Walking.{found_is, unopened}
+use Rattle.judge.proofs.Laws.Passes.{judged_opening}
+use Rattle.expand.proofs.Laws.Answers.{accepted_file, both_passed}
 use Rattle.expand.proofs.Laws.Lengths.{no_judgement, no_file, file_length}
 use Rattle.expand.proofs.expansion_length.Goals as goal
 
-pub returns-in_default : goal.returns-in_default
-returns-in_default c = no_judgement _ _ _ c.in_default.not-Accepted c.judge_opened-answer.ensures c.no_length.ensures
+pub returns-in_err-o : goal.returns-in_err-o
+returns-in_err-o c = handed c.from_residual.ensures.1 ∙ no_judgement _ _ (judged_opening _ _ (faulty refl) (unopened _ _ c.in_err-o.ensures))
 
-pub expansion_records-total-requires : goal.expansion_records-total-requires
-expansion_records-total-requires c =
-    let accepted : Accepted ≡ judged c.args.plan.now = sym c.in-Accepted.is ∙ c.judge_opened-answer.ensures in
-    (accepted_file _ accepted, accepted_found _ _ c.open-o.ensures accepted)
+pub returns-in_err-judge_opened : goal.returns-in_err-judge_opened
+returns-in_err-judge_opened c = handed c.from_residual-in_err-judge_opened.ensures.1 ∙ no_judgement _ _ c.in_err-judge_opened.ensures
 
-pub expansion_tests-tested-requires : goal.expansion_tests-tested-requires
-expansion_tests-tested-requires c =
-    let accepted : Accepted ≡ judged c.args.plan.now = sym c.in-Accepted.is ∙ c.judge_opened-answer.ensures in
-    let a = accepted in (accepted_file _ a, accepted_found _ _ c.open-o.ensures a, c.expansion_records-total.ensures)
+pub expansion_records-records-requires : goal.expansion_records-records-requires
+expansion_records-records-requires c = (accepted_file _ c.in_ok-judge_opened.ensures, found_is _ _ c.in_ok-o.ensures)
 
-pub returns-in_default-tested : goal.returns-in_default-tested
-returns-in_default-tested c =
-    let accepted : Accepted ≡ judged c.args.plan.now = sym c.in-Accepted.is ∙ c.judge_opened-answer.ensures in
-    no_file _ _ accepted _ c.in_default-tested.not-Accepted c.expansion_tests-tested.ensures c.no_length-in_default-tested.ensures
+pub expansion_tests-requires : goal.expansion_tests-requires
+expansion_tests-requires c = (accepted_file _ c.in_ok-judge_opened.ensures, found_is _ _ c.in_ok-o.ensures, c.expansion_records-records.ensures)
+
+pub returns-in_err-expansion_tests : goal.returns-in_err-expansion_tests
+returns-in_err-expansion_tests c = handed c.from_residual-in_err-expansion_tests.ensures.1 ∙ no_file _ c.in_ok-judge_opened.ensures _ c.in_err-expansion_tests.ensures
 
 pub file_length-requires : goal.file_length-requires
-file_length-requires c =
-    let accepted : Accepted ≡ judged c.args.plan.now = sym c.in-Accepted.is ∙ c.judge_opened-answer.ensures in
-    let tested : Accepted ≡ answer_of (expansion_rows c.args.plan.now) = sym c.in-Accepted-tested.is ∙ c.expansion_tests-tested.ensures in
-    (accepted_file _ accepted, c.expansion_records-total.ensures, omega (arith, c.expansion_records-total.ensures, (both_passed _ tested).0))
+file_length-requires c = (accepted_file _ c.in_ok-judge_opened.ensures, c.expansion_records-records.ensures, omega (arith, c.expansion_records-records.ensures, (both_passed _ c.in_ok-expansion_tests.ensures).0))
 
 pub returns : goal.returns
-returns c =
-    let accepted : Accepted ≡ judged c.args.plan.now = sym c.in-Accepted.is ∙ c.judge_opened-answer.ensures in
-    let tested : Accepted ≡ answer_of (expansion_rows c.args.plan.now) = sym c.in-Accepted-tested.is ∙ c.expansion_tests-tested.ensures in
-    file_length _ _ accepted tested _ c.file_length.ensures refl
+returns c = file_length _ c.in_ok-judge_opened.ensures c.in_ok-expansion_tests.ensures _ c.file_length.ensures

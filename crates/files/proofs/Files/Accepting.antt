@@ -9,7 +9,7 @@ use lib.ListN.{length}
 use lib.Dec.{ltb, leb, eqb}
 use borrow.Author.Tests.{le-ltb, leb-true, eqb-true, eq-eqb}
 use Rattle.model.specs.Lists.{sum}
-use Rattle.model.specs.declared.Verdict.TheVariants.{Accepted}
+use Rattle.model.specs.Verdicts.{Accepted}
 use Rattle.model.specs.Sides.{span_of, Layout, cell_count}
 use Rattle.model.proofs.Booleans.{and_out}
 use Rattle.model.proofs.Numbering.{array_ends}

@@ -1,6 +1,6 @@
 -- No promise of an entry point rests on this text: what those who walk the records of a file that opens ask of it.
 use Rattle.std.specs.Prelude.{◌≡◌, true, List, ℕ, ◌+◌, ◌≤◌, get_or}
-use Rattle.model.specs.declared.Verdict.TheVariants.{Accepted}
+use Rattle.model.specs.Verdicts.{Accepted}
 use Rattle.model.specs.Sides.{span_of}
 use Rattle.model.specs.Records.{Action}
 use Rattle.model.specs.Blocks.{Block}

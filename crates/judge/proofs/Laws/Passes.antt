@@ -5,8 +5,7 @@ use mathlib.Core.List.{List}
 use Prim.Native.Nat.{ℕ, zero, suc, ◌+◌, ◌-◌, ◌≤◌, ◌<◌}
 use native.Mathlib.Decide.{dec_lt}
 use native.Mathlib.Omega.{arith}
-use Rattle.model.specs.declared.Verdict.{Verdict}
-use Rattle.model.specs.declared.Verdict.TheVariants.{Accepted, Refused}
+use Rattle.model.specs.Verdicts.{Verdict, Accepted, Refused}
 use Rattle.model.specs.Rows.{Row, answer_of, all_rows}
 use Rattle.reading.specs.Bytes.{is_declared, body_count, records_in, declarations_in}
 use Rattle.format.specs.Opening.{open_rows, opening}

@@ -7,6 +7,8 @@ use native.Mathlib.Numerals.{add-one}
 use native.Mathlib.Omega.{arith}
 use lib.Dec.{eqb}
 use lib.ListN.{get_or, replicate}
+use Rattle.std.specs.Prelude.{Option}
+use Rattle.marks.specs.declared.Declaration.{Declaration}
 use Rattle.model.specs.Sides.{Side, Layout, span_of}
 use Rattle.model.specs.Records.{Action}
 use Rattle.model.specs.Blocks.{Block}
@@ -21,10 +23,10 @@ use Rattle.passes.specs.declared.Extent.{Extent}
 use Rattle.judge.specs.Judged.{w_rows}
 use Rattle.judge.specs.Inner.Unmet.{Decides}
 use Rattle.passes.specs.Inner.Passes.{PassAt}
-use Rattle.permits.specs.Inner.Uses.{Sides}
+use Rattle.permits.specs.Inner.Uses.{ByArray}
 use Rattle.marks.specs.Inner.Marks.{marked, Adds, all_marked, Tables, always, met}
 use Rattle.passes.proofs.Records.{declaration_array, others_block}
-use Rattle.permits.proofs.ByArray.{side_kept}
+use Rattle.permits.proofs.ByArray.{declared_kept}
 use Rattle.marks.proofs.Marks.{none_marked}
 
 -- cells that are marked exactly if they are always written
@@ -33,7 +35,7 @@ unfolding all_marked all_written
 all_same layout s body l c zero h = refl
 all_same layout s body l c (suc n) h = rw (h c (omega arith) (omega arith), all_same layout s body l (suc c) n (λ k u v. h k (omega arith) (omega arith)))
 
-module _ (f : List ℕ) (e : Extent) (p : PassAt f e) (sides : List ℕ) (b : Sides f e sides) (starts : List ℕ) (t : Tables f starts sides) where
+module _ (f : List ℕ) (e : Extent) (p : PassAt f e) (declared : List (Option Declaration)) (b : ByArray f e declared) (starts : List ℕ) (t : Tables f starts declared) where
   module _ (i : ℕ) (h : i < e.declarations) where
     abbrev x : Fields
     x = fields_at f (e.from + i)
@@ -50,12 +52,11 @@ module _ (f : List ℕ) (e : Extent) (p : PassAt f e) (sides : List ℕ) (b : Si
     starts_fit : (x.array < 32) × (get_or starts x.array 0 ≤ get_or starts (x.array + 1) 0) × (get_or starts (x.array + 1) 0 ≤ 4096)
     starts_fit = (omega (arith, on_array, t.arrays_low), omega (arith, start, next), omega (arith, next, array_ends (layout_of f) x.array, t.cells_low))
 
-    module _ (l : List Bool) (a : Adds (replicate 4096 false) l (always f sides (e.from + e.declarations) (e.from + e.records))) where
+    module _ (l : List Bool) (a : Adds (replicate 4096 false) l (always f declared (e.from + e.declarations) (e.from + e.records))) where
       cell_is : (k : ℕ) → (span_of (layout_of f) x.array).first ≤ k → k < (span_of (layout_of f) x.array).first + (span_of (layout_of f) x.array).length → marked l k ≡ always_writes (layout_of f) (side_of x.side) k (pass_at f e.body).body
       unfolding always
       cell_is k u v =
-          let s : get_or sides x.array 0 ≡ x.side = side_kept f e p sides b i h in
-          rw (none_marked k, array_from (layout_of f) x.array k u v, s, ← others_block f e p) at (a.marks k (omega (arith, array_ends (layout_of f) x.array, t.cells_low)))
+          rw (none_marked k, array_from (layout_of f) x.array k u v, declared_kept f e p declared b i h, ← others_block f e p) at (a.marks k (omega (arith, array_ends (layout_of f) x.array, t.cells_low)))
 
       all_is : all_marked l (get_or starts x.array 0) (get_or starts (x.array + 1) 0 - get_or starts x.array 0) ≡ all_written (layout_of f) (side_of x.side) (pass_at f e.body).body (span_of (layout_of f) x.array).first (span_of (layout_of f) x.array).length
       all_is =
@@ -70,5 +71,5 @@ module _ (f : List ℕ) (e : Extent) (p : PassAt f e) (sides : List ℕ) (b : Si
           go true all = refl
           go false all = refl
 
-  pub decides : (l : List Bool) → Adds (replicate 4096 false) l (always f sides (e.from + e.declarations) (e.from + e.records)) → Decides f starts l e
+  pub decides : (l : List Bool) → Adds (replicate 4096 false) l (always f declared (e.from + e.declarations) (e.from + e.records)) → Decides f starts l e
   decides l a = record { fit = λ i h. starts_fit i h; rows = λ i h. w_row i h l a }

@@ -1,26 +1,24 @@
 -- `judge::judge_pass` answers 12 to 14 by record, then 15, of one pass.
-use mathlib.Core.Path.{refl, sym, ◌∙◌}
+use mathlib.Core.Path.{refl, ◌∙◌}
+use Rattle.model.proofs.Verdicts.{faulty, handed}
 use Rattle.permits.proofs.ByArray.{tables}
 use Rattle.judge.proofs.Laws.Passes.{pass_twice, pass_used, pass_unmet}
 use Rattle.judge.proofs.judge_pass.Goals as goal
 
-pub declarations-twice-requires : goal.declarations-twice-requires
-declarations-twice-requires c = (c.requires.0, refl, refl)
+pub returns-in_err-declared : goal.returns-in_err-declared
+returns-in_err-declared c = handed c.from_residual.ensures.1 ∙ pass_twice _ _ c.requires.0 _ (faulty refl) c.in_err-declared.ensures.refused
 
-pub returns-in_default : goal.returns-in_default
-returns-in_default c = pass_twice _ _ c.requires.0 _ c.in_default.not-Accepted c.declarations-twice.ensures.verdict
+pub uses-requires : goal.uses-requires
+uses-requires c = (c.requires.0, c.in_ok-declared.ensures.found)
 
-pub uses-used-requires : goal.uses-used-requires
-uses-used-requires c = (c.requires.0, c.declarations-twice.ensures.found c.in-Accepted.is)
-
-pub returns-in_default-used : goal.returns-in_default-used
-returns-in_default-used c = pass_used _ _ c.requires.0 _ c.in_default-used.not-Accepted c.uses-used.ensures
+pub returns-in_err-uses : goal.returns-in_err-uses
+returns-in_err-uses c = handed c.from_residual-in_err-uses.ensures.1 ∙ pass_used _ _ c.requires.0 _ (faulty refl) c.in_err-uses.ensures
 
 pub unmet-requires : goal.unmet-requires
 unmet-requires c =
     let w = c.requires in
-    let b = (c.declarations-twice.ensures.found c.in-Accepted.is).by_side in
+    let b = c.in_ok-declared.ensures.found in
     (w.0, b, tables _ _ w.0 _ b _ w.1)
 
 pub returns : goal.returns
-returns c = pass_unmet _ _ c.requires.0 _ (sym c.in-Accepted-used.is ∙ c.uses-used.ensures) c.unmet.ensures
+returns c = pass_unmet _ _ c.requires.0 _ c.in_ok-uses.ensures c.unmet.ensures

@@ -1,11 +1,11 @@
-use mathlib.Core.Path.{ap, ◌∙◌}
+use mathlib.Core.Path.{refl, ap, ◌∙◌}
 use mathlib.Core.List.{[]}
 use Rattle.places.specs.Inner.Places.{Spot, settled}
 use Rattle.logs.specs.Inner.Following.{moved_to}
 use Rattle.logs.proofs.after.Goals as goal
 
 pub returns-then-stuck : goal.returns-then-stuck
-returns-then-stuck c = rw c.if-stuck.true (c.refused.ensures _)
+returns-then-stuck c = rw c.if-stuck.true refl
 
 pub settle-requires : goal.settle-requires
 settle-requires c = let pre = c.requires in (rw (ap (λ (x : Spot). x.depth) (c.past.ensures [])) pre.1, pre.2)

@@ -1,18 +1,13 @@
 use mathlib.Core.List.{[]}
 use native.Mathlib.Omega.{arith}
 use Rattle.logs.specs.Logged.{entries_of}
-use Rattle.logs.proofs.Following.{count_is, none_begun}
-use Rattle.std.proofs.Common.{rules}
 use Rattle.logs.proofs.hold.Goals as goal
 
-pub begin-h-requires : goal.begin-h-requires
-begin-h-requires c = (c.requires, search rules, search rules, none_begun)
-
-pub follow-n-requires : goal.follow-n-requires
-follow-n-requires c = let b = c.begin-h.ensures in (record { entries = []; holds = b.0 }, omega (arith, b.1))
+pub follow-requires : goal.follow-requires
+follow-requires c = let b = c.first-stage.ensures.underway in (rw c.from-bodies.ensures b.0, omega (arith, b.1))
 
 pub conclude-requires : goal.conclude-requires
-conclude-requires c = let v = c.args in let b = c.begin-h.ensures in let w = c.follow-n.ensures in (record { entries = entries_of v.log.now; holds = w.more [] b.0 }, omega (arith, b.1, w.counts, count_is v.log.now))
+conclude-requires c = let b = c.first-stage.ensures.underway in let w = c.follow.ensures.underway in (w.0, omega (arith, b.1, w.1))
 
 pub returns : goal.returns
-returns c = let v = c.args in c.conclude.ensures (entries_of v.log.now) (c.follow-n.ensures.more [] c.begin-h.ensures.0)
+returns c = let v = c.args in c.conclude.ensures (entries_of v.log.now) (c.follow.ensures.led.more [] (rw c.from-bodies.ensures c.first-stage.ensures.led))

@@ -1,21 +1,22 @@
 -- No promise of an entry point rests on this text: where the run that a log tells stands, and how an entry leads on.
-use Rattle.std.specs.Prelude.{ℕ, ◌+◌, ◌-◌, ◌≤◌, ◌<◌, ◌≡◌, Bool, true, cond, ◌&&◌, List, [], ◌++◌, eqb, ltb, length, get_or, take}
+use Rattle.std.specs.Prelude.{Result, Ok, Err, Option, None, Some, ℕ, ◌+◌, ◌-◌, ◌≤◌, ◌<◌, ◌≡◌, Bool, true, cond, ◌&&◌, List, [], ◌++◌, eqb, ltb, length, get_or, take}
 use Rattle.std.proofs.Math.Option.{some}
-use Rattle.model.specs.declared.Verdict.TheVariants.{Accepted, Refused}
+use Rattle.model.specs.Verdicts.{Refused}
 use Rattle.model.specs.Runs.{Config, proper, carried_on, begin}
 use Rattle.model.specs.Inner.Events.{Past}
 use Rattle.reading.specs.declared.Fields.{Fields}
 use Rattle.reading.specs.Bytes.{is_plain, layout_of}
 use Rattle.contents.specs.declared.Opened.{Opened}
-use Rattle.format.specs.Opening.{opening, opened}
+use Rattle.format.specs.Opening.{opened}
 use Rattle.format.specs.Plans.{plan_of}
 use Rattle.format.specs.Inner.Walks.{Plain, Starts}
 use Rattle.places.specs.declared.Place.{Place}
 use Rattle.places.specs.Inner.Places.{Spot, spot, settled, chosen, turned, left_of, Placed}
 use Rattle.standing.specs.Inner.Standing.{past_record}
 use Rattle.tracked.specs.Inner.Tracking.{Statuses}
-use Rattle.logs.specs.declared.Point.{Point}
 use Rattle.logs.specs.declared.Held.{Held}
+use Rattle.logs.specs.declared.Refusal.{Refusal}
+use Rattle.logs.specs.declared.Stage.{Stage}
 use Rattle.logs.specs.Logs.{next_number, Logs}
 use Rattle.logs.specs.Logged.{Says}
 
@@ -41,21 +42,36 @@ pub record Trail : Type 0 where
   pub place : Spot
   pub number : ℕ
 
--- from its two parts
-abbrev pub trail : Point → List ℕ → Trail
-trail m room = record { place = spot m.place room; number = m.number }
-
 -- the log goes on from a place
 abbrev pub moved_to : Spot → Trail
 moved_to p = record { place = p; number = 0 }
 
--- the entry is refused
-abbrev pub refused_with : Trail → ℕ → Trail
-refused_with m number = record { place = m.place; number = number }
+-- the number of a refusal
+abbrev pub number_of : Refusal → ℕ
+number_of Refusal.NoRun = 30
+number_of Refusal.Stops = 31
+
+-- an entry is refused: no place counts behind it
+abbrev pub refused_with : List ℕ → ℕ → Trail
+refused_with room number = record { place = record { at = 0; end = 0; depth = 0; used = 0; room = room }; number = number }
+
+-- the number of the refusal, 0 while the log goes on
+abbrev pub stood : Result Place Refusal → ℕ
+stood (Ok p) = 0
+stood (Err e) = number_of e
+
+-- where the log stands, if it goes on
+abbrev pub place_of : Result Place Refusal → List ℕ → Spot
+place_of (Ok p) room = spot p room
+place_of (Err e) room = record { at = 0; end = 0; depth = 0; used = 0; room = room }
+
+-- from its two parts
+abbrev pub trail : Result Place Refusal → List ℕ → Trail
+trail r room = record { place = place_of r room; number = stood r }
 
 -- after a record without arms
-abbrev pub after_act : Trail → Bool → Trail
-after_act m stuck = cond stuck (refused_with m 31) (moved_to (settled (past_record m.place)))
+abbrev pub after_act : Spot → Bool → Trail
+after_act p stuck = cond stuck (refused_with p.room 31) (moved_to (settled (past_record p)))
 
 -- after i of the entries l the run stands at this place, and the list has the status of each cell
 pub record At (f l : List ℕ) (bodies : ℕ) (m : Trail) (cells : List ℕ) (i : ℕ) : Type 0 where
@@ -89,35 +105,43 @@ pub record Followed (f l : List ℕ) (bodies : ℕ) (m : Trail) (cells : List �
   pub goes_on : m.number ≡ 0 → At f l bodies m cells (i + 1)
   pub ends : (m.number ≡ 0 → ⊥) → Says f l (record { verdict = Refused m.number 0; entry = i })
 
+-- a stage from what changes at each entry, its cells and its room
+abbrev pub staged : Held → List ℕ → List ℕ → Stage
+staged h cells room = record { place = h.place; waiting = h.waiting; read = h.read; cells = cells; room = room }
+
+-- the last of the entries l waits, if there is one
+abbrev pub Awaits : List ℕ → Option ℕ → Type 0
+Awaits l None = length l ≡ 0
+Awaits l (Some n) = (0 < length l) × (n ≡ get_or l (length l - 1) 0)
+
 -- the entries l are read, and all but the last are followed, whatever is read behind them
-pub record Waits (f l : List ℕ) (bodies : ℕ) (h : Held) (room cells : List ℕ) : Type 0 where
-  pub count : h.read ≡ length l
-  pub last : 0 < h.read → h.waiting ≡ get_or l (h.read - 1) 0
-  pub stands : (more : List ℕ) → At f (l ++ more) bodies (trail h.point room) cells (h.read - 1)
+pub record Waits (f l : List ℕ) (bodies : ℕ) (t : Stage) : Type 0 where
+  pub count : t.read ≡ length l
+  pub last : Awaits l t.waiting
+  pub stands : (more : List ℕ) → At f (l ++ more) bodies (trail t.place t.room) t.cells (t.read - 1)
 
 -- one of them, and not the last, is refused
-pub record Refuses (f l : List ℕ) (h : Held) : Type 0 where
-  pub some_read : 0 < h.read
-  pub early : h.read < length l
-  pub says : Says f l (record { verdict = Refused h.point.number 0; entry = h.read - 1 })
+pub record Refuses (f l : List ℕ) (t : Stage) : Type 0 where
+  pub some_read : 0 < t.read
+  pub early : t.read < length l
+  pub says : Says f l (record { verdict = Refused (stood t.place) 0; entry = t.read - 1 })
 
 -- where the entries l have led
-pub record HaveLed (f l : List ℕ) (bodies : ℕ) (h : Held) (room cells : List ℕ) : Type 0 where
-  pub goes_on : h.point.number ≡ 0 → Waits f l bodies h room cells
-  pub ends : (h.point.number ≡ 0 → ⊥) → Refuses f l h
+pub record HaveLed (f l : List ℕ) (bodies : ℕ) (t : Stage) : Type 0 where
+  pub goes_on : stood t.place ≡ 0 → Waits f l bodies t
+  pub ends : (stood t.place ≡ 0 → ⊥) → Refuses f l t
 
 -- some entries have led there
-pub record Underway (f : List ℕ) (bodies : ℕ) (h : Held) (room cells : List ℕ) : Type 0 where
+pub record Underway (f : List ℕ) (bodies : ℕ) (t : Stage) : Type 0 where
   pub entries : List ℕ
-  pub holds : HaveLed f entries bodies h room cells
+  pub holds : HaveLed f entries bodies t
 
--- the entries of a part have led on from h to r, whichever were read before them
-pub record LedOn (f : List ℕ) (bodies : ℕ) (part : List ℕ) (h : Held) (room cells : List ℕ) (r : Held) (room' cells' : List ℕ) : Type 0 where
-  pub more : (l : List ℕ) → HaveLed f l bodies h room cells → HaveLed f (l ++ part) bodies r room' cells'
-  pub counts : r.read ≤ h.read + length part
+-- the entries of a part have led on from t to r, whichever were read before them
+pub record LedOn (f : List ℕ) (bodies : ℕ) (part : List ℕ) (t r : Stage) : Type 0 where
+  pub more : (l : List ℕ) → HaveLed f l bodies t → HaveLed f (l ++ part) bodies r
+  pub counts : r.read ≤ t.read + length part
 
 -- the file is a plain plan that opening has found to be o
 pub record Opens (f : List ℕ) (o : Opened) : Type 0 where
-  pub found : o ≡ opened f
-  pub opens : Accepted ≡ opening f
+  pub found : Ok o ≡ opened f
   pub plain : is_plain f ≡ true

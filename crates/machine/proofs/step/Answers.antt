@@ -1,5 +1,6 @@
 -- `step` is one step of the definition of a run, it lowers the measure, and it leaves the cells past the plan's.
-use Rattle.std.proofs.Common.{◌≡◌, ℕ, ◌+◌, ◌≤◌, ◌<◌, true, List, get_or, arith}
+use Rattle.std.proofs.Common.{◌≡◌, ℕ, ◌+◌, ◌≤◌, ◌<◌, List, get_or, arith}
+use Rattle.std.specs.Prelude.{None}
 use Rattle.model.specs.Sides.{cell_count}
 use Rattle.model.specs.declared.Tally.{Tally}
 use Rattle.model.specs.Runs.{Config}
@@ -32,7 +33,7 @@ module _ {f choices : List ℕ} {m : Runner} {own others latest : List ℕ} {t :
   abbrev next : ℕ
   next = get_or m.place.room (x.array + 1) 0
 
-  able_there : m.running ≡ true → Able (layout_of f) x first next (from_of x first) (to_of x first next) (stored_with m t) m.place.at own others latest
+  able_there : m.verdict ≡ None → Able (layout_of f) x first next (from_of x first) (to_of x first next) (stored_with m t) m.place.at own others latest
   able_there run =
       let there = array_there in
       able f choices m own others latest t run k w h x e (omega arith) first next (w.starts.first _ (omega arith)) (w.starts.first _ (omega arith))

@@ -18,7 +18,7 @@ invariant-loop-at l =
     × (l.at ≤ l.end)
     × (length l.set ≡ 4096)
     × Walkable l.plan l.at l.end
-    × ((after : List Bool) → Adds l.set after (always l.plan l.sides l.at l.end) → Adds l.initial.set after (always l.plan l.sides l.r l.end))
+    × ((after : List Bool) → Adds l.set after (always l.plan l.declared l.at l.end) → Adds l.initial.set after (always l.plan l.declared l.r l.end))
 
 abbrev pub decreases-loop-at : goal.decreases-loop-at
 decreases-loop-at l = l.end - l.at

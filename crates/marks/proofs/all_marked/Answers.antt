@@ -1,18 +1,17 @@
-use mathlib.Core.Path.{refl, sym, ◌∙◌}
-use Rattle.marks.specs.Inner.Marks.{marked}
-use Rattle.marks.proofs.Marks.{all_next, all_not, all_end}
+-- `marks::all_marked` says whether all cells of a range are marked.
+use mathlib.Core.Path.{sym, ◌∙◌}
+use native.Mathlib.Omega.{arith}
+use borrow.Author.Tests.{le-leb}
+use Rattle.std.proofs.Common.{rules}
+use Rattle.std.proofs.lemmas.Iterator.{YieldsList-from_slice}
+use Rattle.std.proofs.lemmas.Iterator.Search.{all_from_yields_List}
+use Rattle.marks.proofs.Marks.{all_between, all_end}
 use Rattle.marks.proofs.all_marked.Goals as goal
 
-pub loop-c-init : goal.loop-c-init
-loop-c-init c = refl
+pub returns-then-from-end : goal.returns-then-from-end
+returns-then-from-end c = le-leb _ _ c.if-from-end.true ∙ sym (all_end _ _ _ c.if-from-end.true)
 
-pub returns-then-not-set-c : goal.returns-then-not-set-c
-unfolding marked
-returns-then-not-set-c c = sym (c.loop-c.invariant ∙ all_not _ _ _ c.loop-c-test.true c.if-not-set-c.true)
-
-pub loop-c-preserved : goal.loop-c-preserved
-unfolding marked
-loop-c-preserved c = c.loop-c.invariant ∙ all_next _ _ _ c.loop-c-test.true c.if-not-set-c.false
-
-pub returns : goal.returns
-returns c = sym (c.loop-c.invariant ∙ all_end _ _ _ c.loop-c-test.false)
+pub returns-else-from-end : goal.returns-else-from-end
+returns-else-from-end c =
+    all_from_yields_List (λ b. b) _ _ _ c.all.ensures.ran (YieldsList-from_slice _ c.iter.ensures.rest) (λ x b q k. search rules)
+    ∙ sym (all_between _ _ _ (omega arith))

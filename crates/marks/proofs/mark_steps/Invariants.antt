@@ -9,7 +9,7 @@ use Rattle.marks.specs.Inner.Marks.{Adds}
 use Rattle.marks.proofs.mark_steps.Given as goal
 
 abbrev pub invariant-loop-c : goal.invariant-loop-c
-invariant-loop-c l = (length l.set ≡ 4096) × ((after : List Bool) → Adds l.set after (stepped l.step l.c l.to) → Adds l.initial.set after (stepped l.step l.initial.c l.to))
+invariant-loop-c l = (length l.set ≡ 4096) × ((after : List Bool) → Adds l.set after (stepped l.c-step l.c l.c-end) → Adds l.initial.set after (stepped l.c-step l.initial.c l.c-end))
 
 abbrev pub decreases-loop-c : goal.decreases-loop-c
-decreases-loop-c l = l.to - l.c
+decreases-loop-c l = l.c-end - l.c

@@ -1,6 +1,6 @@
 -- No promise of an entry point rests on this text: where a pass stands.
 use Rattle.std.specs.Prelude.{ℕ, ◌+◌, ◌-◌, ◌≤◌, ◌<◌, true, ◌≡◌, List, get_or}
-use Rattle.model.specs.declared.Verdict.TheVariants.{Accepted}
+use Rattle.model.specs.Verdicts.{Accepted}
 use Rattle.reading.specs.Bytes.{is_declared, body_count, records_in, declarations_in, first_record, bodies_at}
 use Rattle.contents.specs.declared.Opened.{Opened}
 use Rattle.format.specs.Opening.{opening}

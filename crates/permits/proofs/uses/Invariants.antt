@@ -1,13 +1,9 @@
 -- `permits::uses` answers numbers 13 and 14 of the records after the declarations. The invariant: no record before the i-th stops.
 use mathlib.Core.Path.{◌≡◌}
-use Prim.Native.Nat.{◌-◌, ◌≤◌}
-use Rattle.model.specs.declared.Verdict.TheVariants.{Accepted}
+use Rattle.model.specs.Verdicts.{Accepted}
 use Rattle.model.specs.Rows.{answer_of, all_rows}
 use Rattle.permits.specs.Permits.{permit_rows}
 use Rattle.permits.proofs.uses.Given as goal
 
 abbrev pub invariant-loop-i : goal.invariant-loop-i
-invariant-loop-i l = (l.e.declarations ≤ l.i) × (l.i ≤ l.e.records) × (Accepted ≡ answer_of (all_rows l.i (permit_rows l.plan l.e.body)))
-
-abbrev pub decreases-loop-i : goal.decreases-loop-i
-decreases-loop-i l = l.e.records - l.i
+invariant-loop-i l = Accepted ≡ answer_of (all_rows l.i (permit_rows l.plan l.e.body))

@@ -3,5 +3,5 @@ use Rattle.std.proofs.Common.{sym, ◌∙◌, false}
 use Rattle.logs.proofs.Rows.{to_hold}
 use Rattle.planlog.proofs.answer.Goals as goal
 
-pub log_lines-at-requires : goal.log_lines-at-requires
-log_lines-at-requires g c = let e = c.open-o.ensures in to_hold _ _ e false (sym c.in-Accepted.is ∙ c.refused_before-v.ensures _ e)
+pub log_lines-requires : goal.log_lines-requires
+log_lines-requires g c = to_hold _ false _ (sym c.in-Ok.is ∙ c.plan_to_follow.ensures _ c.open-opened.ensures)

@@ -1,9 +1,8 @@
 use mathlib.Core.Path.{sym, ap, ◌∙◌}
 use native.Mathlib.Omega.{arith}
-use Rattle.model.specs.declared.Verdict.TheVariants.{Accepted}
+use Rattle.model.proofs.Verdicts.{faulty, handed}
 use Rattle.sizes.proofs.Body0.{body0_few, body0_inside}
-use Rattle.products.proofs.Rows.{Answers, call_fits, at_own, Read, parts_of, at_first, at_second, at_next, at_end}
-use Prim.Native.Nat.{◌+◌, ◌*◌}
+use Rattle.products.proofs.Rows.{call_fits, at_own, Read, parts_of, at_first, at_second, at_next, at_end}
 use Rattle.std.proofs.Common.{rules}
 use mathlib.Core.Path.{◌≡◌}
 use mathlib.Core.Bool.{false}
@@ -37,32 +36,31 @@ overflow_add-second-in-loop-r t c = let n = body0_few _ c.requires.0 in search r
 pub overflow_add-next : goal.overflow_add-next
 overflow_add-next t c = let n = body0_few _ c.requires.0 in search rules
 
-pub calls_between-one-requires : goal.calls_between-one-requires
-calls_between-one-requires t c =
+pub calls_between-requires : goal.calls_between-requires
+calls_between-requires t c =
     let p = parts_of (read_at c.requires.0 c.loop-r-test.true c.loop-r.invariant.2 c.record_at-x.ensures c.first_arm.ensures.arm c.second_arm.ensures.arm c.turns_of.ensures.turns (sym c.too_many.ensures ∙ c.if-too_many.false)) in let u = c.requires in (omega (arith, p.inside), (u.0, u.1, omega arith, omega (arith, p.inside), p.one))
 
-pub returns-in_default : goal.returns-in_default
-returns-in_default t c =
+pub returns-in_err-calls_between : goal.returns-in_err-calls_between
+returns-in_err-calls_between t c =
     let here = read_at c.requires.0 c.loop-r-test.true c.loop-r.invariant.2 c.record_at-x.ensures c.first_arm.ensures.arm c.second_arm.ensures.arm c.turns_of.ensures.turns (sym c.too_many.ensures ∙ c.if-too_many.false) in
-    c.loop-r.invariant.3 _ (at_first here _ c.in_default.not-Accepted c.calls_between-one.ensures)
+    let e = handed c.from_residual.ensures.1 in
+    c.loop-r.invariant.3 _ (at_first here _ (faulty e) (e ∙ c.in_err-calls_between.ensures))
 
-pub calls_between-two-requires : goal.calls_between-two-requires
-calls_between-two-requires t c =
+pub calls_between-requires-then-r-next : goal.calls_between-requires-then-r-next
+calls_between-requires-then-r-next t c =
     let p = parts_of (read_at c.requires.0 c.loop-r-test.true c.loop-r.invariant.2 c.record_at-x.ensures c.first_arm.ensures.arm c.second_arm.ensures.arm c.turns_of.ensures.turns (sym c.too_many.ensures ∙ c.if-too_many.false)) in let u = c.requires in (omega (arith, p.inside), (u.0, u.1, omega arith, omega (arith, p.inside), p.two))
 
-pub returns-in_default-two : goal.returns-in_default-two
-returns-in_default-two t c =
+pub returns-in_err-calls_between-2 : goal.returns-in_err-calls_between-2
+returns-in_err-calls_between-2 t c =
     let here = read_at c.requires.0 c.loop-r-test.true c.loop-r.invariant.2 c.record_at-x.ensures c.first_arm.ensures.arm c.second_arm.ensures.arm c.turns_of.ensures.turns (sym c.too_many.ensures ∙ c.if-too_many.false) in
-    let one : Answers c.args.plan.now (c.args.around * c.turns_of.result) (c.loop-r.r + 1) (c.loop-r.r + 1 + c.first_arm.result) Accepted = rw c.in-Accepted.is at c.calls_between-one.ensures in
-    c.loop-r.invariant.3 _ (at_second here _ one c.in_default-two.not-Accepted c.calls_between-two.ensures)
+    let e = handed c.from_residual-in_err-calls_between-2.ensures.1 in
+    c.loop-r.invariant.3 _ (at_second here _ c.in_ok-calls_between.ensures (faulty e) (e ∙ c.in_err-calls_between-2.ensures))
 
-pub loop-r-preserved-in-Accepted-two : goal.loop-r-preserved-in-Accepted-two
-loop-r-preserved-in-Accepted-two t c =
+pub loop-r-preserved-in_ok-calls_between-2 : goal.loop-r-preserved-in_ok-calls_between-2
+loop-r-preserved-in_ok-calls_between-2 t c =
     let here = read_at c.requires.0 c.loop-r-test.true c.loop-r.invariant.2 c.record_at-x.ensures c.first_arm.ensures.arm c.second_arm.ensures.arm c.turns_of.ensures.turns (sym c.too_many.ensures ∙ c.if-too_many.false) in
-    let one : Answers c.args.plan.now (c.args.around * c.turns_of.result) (c.loop-r.r + 1) (c.loop-r.r + 1 + c.first_arm.result) Accepted = rw c.in-Accepted.is at c.calls_between-one.ensures in
     let p = parts_of here in
-    let two = rw c.in-Accepted-two.is at c.calls_between-two.ensures in
-    (omega arith, p.inside, p.rest, (λ v a. c.loop-r.invariant.3 v (at_next here v one two a)))
+    (omega arith, p.inside, p.rest, (λ v a. c.loop-r.invariant.3 v (at_next here v c.in_ok-calls_between.ensures c.in_ok-calls_between-2.ensures a)))
 
 pub loop-r-preserved : goal.loop-r-preserved
 loop-r-preserved t c =

@@ -1,6 +1,6 @@
 -- `products::calls_between` answers number 26 of the calls of a part of body 0. The invariant: whatever the records left answer is the part's answer.
 -- The measure is the number of records.
-use Rattle.model.specs.declared.Verdict.{Verdict}
+use Rattle.model.specs.Verdicts.{Verdict}
 use Rattle.products.specs.Inner.Counts.{Within}
 use Rattle.products.proofs.Rows.{Answers}
 use Prim.Native.Nat.{◌-◌, ◌≤◌}

@@ -1,4 +1,5 @@
-use mathlib.Core.Path.{sym, ◌∙◌}
+use mathlib.Core.Path.{◌≡◌, sym, ◌∙◌}
+use Prim.Native.Nat.{◌*◌, max}
 use native.Mathlib.Omega.{arith}
 use Rattle.products.proofs.Counts.{Arms, arms_of, product_low, product_next, product_first, product_last}
 use Rattle.std.proofs.Common.{rules}
@@ -20,7 +21,7 @@ largest-two-requires t c =
 pub overflow_mul-turns_of : goal.overflow_mul-turns_of
 overflow_mul-turns_of t c =
     let low = product_low _ _ _ c.loop-r-test.true c.loop-r.invariant.3 _ c.record_at-x.ensures _ _ c.first_arm.ensures.arm c.second_arm.ensures.arm _ _ _ c.turns_of.ensures.turns c.largest-one.ensures c.largest-two.ensures in
-    let m = rw (← c.larger.ensures) at low in
+    let m = rw (← c.max.ensures) at low in
     search rules
 
 pub loop-r-preserved : goal.loop-r-preserved
@@ -28,7 +29,8 @@ loop-r-preserved t c =
     let arms : Arms c.args.plan.now c.loop-r.r c.args.end c.first_arm.result c.second_arm.result = arms_of _ _ _ c.loop-r-test.true c.loop-r.invariant.3 _ c.record_at-x.ensures _ _ c.first_arm.ensures.arm c.second_arm.ensures.arm in
     let a = arms in
     let next = product_next _ _ _ c.loop-r-test.true c.loop-r.invariant.3 _ c.record_at-x.ensures _ _ c.first_arm.ensures.arm c.second_arm.ensures.arm _ _ _ c.turns_of.ensures.turns c.largest-one.ensures c.largest-two.ensures _ _ c.loop-r.invariant.4 in
-    (omega arith, a.inside, omega (arith, c.larger-most.ensures), a.rest, rw (c.larger-most.ensures, c.larger.ensures) next)
+    let most : c.max-most.result ≡ max (c.turns_of.result * c.max.result) c.loop-r.most = omega (arith, c.max-most.ensures) in
+    (omega arith, a.inside, omega (arith, most), a.rest, rw (most, c.max.ensures) next)
 
 pub returns : goal.returns
 returns t c = sym (product_last _ _ _ _ c.loop-r-test.false c.loop-r.invariant.2) ∙ c.loop-r.invariant.4

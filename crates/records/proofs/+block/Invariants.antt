@@ -1,4 +1,4 @@
-use Rattle.model.specs.declared.Verdict.{Verdict}
+use Rattle.model.specs.Verdicts.{Verdict}
 use Rattle.records.proofs.Records.{Answers}
 use Prim.Native.Nat.{◌-◌, ◌≤◌}
 use Rattle.records.proofs.+block.Given as goal

@@ -1,12 +1,8 @@
 -- `sizes::declared_size` counts the records that declarations give. The invariant: n counts those of the first i.
 use mathlib.Core.Path.{◌≡◌}
-use Prim.Native.Nat.{◌-◌, ◌≤◌}
 use Rattle.model.specs.Blocks.{size}
 use Rattle.files.specs.Inner.Given.{declared_from}
 use Rattle.sizes.proofs.declared_size.Given as goal
 
 abbrev pub invariant-loop-i : goal.invariant-loop-i
-invariant-loop-i l = (l.i ≤ l.count) × (l.n ≡ size (declared_from l.plan l.from l.i))
-
-abbrev pub decreases-loop-i : goal.decreases-loop-i
-decreases-loop-i l = l.count - l.i
+invariant-loop-i l = l.n ≡ size (declared_from l.plan l.from l.i)

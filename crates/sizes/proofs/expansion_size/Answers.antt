@@ -4,4 +4,4 @@ use lib.ListN.{get_or}
 use Rattle.sizes.proofs.expansion_size.Goals as goal
 
 pub returns : goal.returns
-returns c = ap (λ k. get_or c.args.places.now k 0) c.body0_end-end.ensures
+returns c = ap (λ k. get_or c.args.places.now k 0) c.body0_end.ensures

@@ -9,10 +9,10 @@ use Rattle.std.proofs.Common.{rules}
 use Rattle.sizes.proofs.pass_sizes.Goals as goal
 
 pub loop-b-init : goal.loop-b-init
-loop-b-init c = (search rules, search rules, (λ k h m. absurd (omega arith)))
+loop-b-init c = (search rules, (λ k h m. absurd (omega arith)))
 
 pub pass_size-requires : goal.pass_size-requires
-pass_size-requires c = (c.requires.0, c.requires.1, c.loop-b.invariant.0, omega (arith, ap (λ o. o.bodies) c.requires.1))
+pass_size-requires c = (c.requires.0, c.requires.1, omega arith, omega (arith, ap (λ o. o.bodies) c.requires.1))
 
 pub offset_bounds-sizes-b : goal.offset_bounds-sizes-b
 offset_bounds-sizes-b c = record { fits = omega (arith, ap (λ o. o.bodies) c.requires.1, bodies_low _ c.requires.0) }
@@ -25,7 +25,7 @@ loop-b-preserved c =
     let l = c.loop-b in
     let f = c.args.plan.now in
     let few = bodies_low f c.requires.0 in
-    (omega arith, simp length-set l.invariant.1, (λ k h m. stored (λ (b : ℕ). size (called f b)) l.sizes l.b _ (omega (arith, ap (λ o. o.bodies) c.requires.1)) c.pass_size.ensures k (λ z. l.invariant.2 k h (omega arith))))
+    (simp length-set l.invariant.0, (λ k h m. stored (λ (b : ℕ). size (called f b)) l.sizes l.b _ (omega (arith, ap (λ o. o.bodies) c.requires.1)) c.pass_size.ensures k (λ z. l.invariant.1 k h (omega arith))))
 
 pub returns : goal.returns
-returns c = record { each = λ b h m. c.loop-b.invariant.2 b h (omega (arith, ap (λ o. o.bodies) c.requires.1)) }
+returns c = record { each = λ b h m. c.loop-b.invariant.1 b h (omega (arith, ap (λ o. o.bodies) c.requires.1)) }

@@ -1,21 +1,24 @@
-use mathlib.Core.Path.{refl, ◌∙◌}
-use native.Mathlib.Omega.{arith}
-use lib.ListN.{get_or, length-set}
-use lib.Seq.{get_or-set_other}
-use Rattle.steps.proofs.Begins.{front_next}
+use Rattle.std.proofs.Common.{rules, ◌≡◌, ◌∙◌, ap, sym, length, ◌+◌, ◌-◌, arith, length-append, length-drop, length-take-le}
+use lib.ListN.{get_or, get_or-append, drop}
+use lib.Seq.{get_or-append-add, get_or-drop}
 use Rattle.steps.proofs.put_starts.Goals as goal
 
-pub loop-a-init : goal.loop-a-init
-loop-a-init c = (omega arith, c.requires, λ i h. absurd (omega arith), λ i h. refl)
+pub slice_bounds-copy_from_slice-end-2 : goal.slice_bounds-copy_from_slice-end-2
+slice_bounds-copy_from_slice-end-2 c = sym (length-take-le 33 c.args.room.now (omega (arith, c.requires)))
 
-pub bounds-room-a : goal.bounds-room-a
-bounds-room-a c = omega (arith, c.loop-a-test.true, c.loop-a.invariant.1)
-
-pub loop-a-preserved : goal.loop-a-preserved
-loop-a-preserved c =
-    let l = c.loop-a in
-    let t = c.loop-a-test.true in
-    (omega arith, length-set l.room l.a (get_or c.args.starts.now l.a 0) ∙ l.invariant.1, front_next c.args.starts.now l.room l.a (omega (arith, l.invariant.1)) l.invariant.2, λ i h. get_or-set_other l.room l.a i _ 0 (λ z. omega arith) ∙ l.invariant.3 i h)
+pub copy_from_slice-requires : goal.copy_from_slice-requires
+copy_from_slice-requires c = length-take-le 33 c.args.room.now (omega (arith, c.requires)) ∙ search rules
 
 pub returns : goal.returns
-returns c = let l = c.loop-a in record { size = l.invariant.1; front = λ a h. l.invariant.2 a (omega (arith, c.loop-a-test.false, l.invariant.0)); behind = l.invariant.3 }
+returns c =
+    let room = c.args.room.now in
+    let front = c.copy_from_slice.new.self in
+    let many : length front ≡ 33 = c.copy_from_slice.ensures.len ∙ length-take-le 33 room (omega (arith, c.requires)) in
+    record {
+      size = omega (arith, length-append front (drop 33 room), length-drop 33 room, many, c.requires);
+      front = λ a h. get_or-append front (drop 33 room) 0 a (omega (arith, many)) ∙ ap (λ l. get_or l a 0) c.copy_from_slice.ensures.after;
+      behind = λ a h.
+          let i : length front + (a - 33) ≡ a = omega (arith, many) in
+          let j : 33 + (a - 33) ≡ a = omega arith in
+          rw i at (get_or-append-add front (drop 33 room) (a - 33) 0) ∙ rw j at (get_or-drop 33 room (a - 33) 0);
+    }

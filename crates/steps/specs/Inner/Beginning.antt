@@ -1,12 +1,11 @@
 -- No promise of an entry point rests on this text: how a run begins, and what its steps leave at its end.
-use Rattle.std.specs.Prelude.{ℕ, ◌≤◌, ◌<◌, ◌≡◌, true, List, length, get_or}
-use Rattle.model.specs.declared.Verdict.TheVariants.{Accepted}
+use Rattle.std.specs.Prelude.{ℕ, ◌≤◌, ◌<◌, ◌≡◌, true, List, length, get_or, None, Ok}
 use Rattle.model.specs.declared.Tally.{Tally}
 use Rattle.model.specs.Sides.{host, cell_count}
 use Rattle.model.specs.Effects.{start}
 use Rattle.contents.specs.declared.Opened.{Opened}
 use Rattle.reading.specs.Bytes.{is_plain, array_count, layout_of, bodies_at}
-use Rattle.format.specs.Opening.{opening, opened}
+use Rattle.format.specs.Opening.{opened}
 use Rattle.memories.specs.Memories.{number_of}
 use Rattle.known.specs.Inner.Knowing.{at_start}
 use Rattle.standing.specs.declared.Machine.{Machine}
@@ -38,15 +37,14 @@ first_host f c = number_of (((start (layout_of f)).cell c).held host)
 abbrev pub first_machine : ℕ → ℕ → ℕ → Machine
 first_machine records flags bodies = record {
   place = started records;
-  flags = flags;
-  other_flags = 0;
+  host_flags = flags;
+  card_flags = 0;
   known = at_start flags;
   bodies = bodies;
   last = record {
     0 = 0;
   };
-  verdict = Accepted;
-  running = true;
+  verdict = None;
 }
 
 -- a machine whose room is no longer there has reached a configuration of the run
@@ -56,8 +54,7 @@ pub record ReachesEnd (f choices : List ℕ) (m : Machine) (own others latest : 
 
 -- the file is a plain plan that opening has found to be o, and the run may begin
 pub record Ready (f : List ℕ) (o : Opened) (choices own others latest : List ℕ) : Type 0 where
-  pub found : o ≡ opened f
-  pub opens : Accepted ≡ opening f
+  pub found : Ok o ≡ opened f
   pub plain : is_plain f ≡ true
   pub own_room : cell_count (layout_of f) ≤ length own
   pub others_room : cell_count (layout_of f) ≤ length others

@@ -1,6 +1,8 @@
 -- No promise of an entry point rests on this text: rows of numbers, added column by column.
-use Rattle.std.specs.Prelude.{ℕ, zero, suc, ◌+◌, ◌*◌, ◌/◌, ◌≤◌, List, [], ◌∷◌, ◌≡◌, length, get_or}
+use Rattle.std.specs.Prelude.{ℕ, zero, suc, ◌+◌, ◌*◌, ◌/◌, ◌≤◌, ◌<◌, List, [], ◌∷◌, ◌≡◌, length, get_or}
 use Rattle.sums.specs.Sums.{plain_sum, weighted_sum}
+use Rattle.sums.specs.declared.columns.Band.{Band}
+use Rattle.sums.specs.declared.columns.Bands.{Bands}
 
 -- a list with the numbers of a second one added, as far as that goes
 unfoldable pub added : List ℕ → List ℕ → List ℕ
@@ -27,8 +29,14 @@ pub record RowsOf (x plain weighted : List ℕ) : Type 0 where
   pub high : Most (255 * triangle (length x / 32)) weighted
   pub sizes : (length plain ≡ 32) × (length weighted ≡ 32)
 
+-- there is room for one row more: it has 32 bytes, and all sums fit 16 bits with it
+pub record RoomForRow (band : Band) (row : List ℕ) : Type 0 where
+  pub lengths : (length band.plain ≡ 32) × (length band.weighted ≡ 32) × (length row ≡ 32)
+  pub plain : Most 65280 band.plain
+  pub weighted : (i : ℕ) → get_or band.weighted i 0 + get_or (added band.plain row) i 0 < 65536
+
 -- there is room for a band's columns: all have 32 numbers, and 31 bits hold the sums so far
-pub record Room (columns rows behind plain weighted : List ℕ) : Type 0 where
-  pub lengths : (length columns ≡ 32) × (length rows ≡ 32) × (length behind ≡ 32)
-  pub more : (length plain ≡ 32) × (length weighted ≡ 32)
-  pub low : Most 2147483647 columns × Most 2147483647 rows × Most 2147483647 behind
+pub record RoomForBand (bands : Bands) (band : Band) : Type 0 where
+  pub lengths : (length bands.columns ≡ 32) × (length bands.rows ≡ 32) × (length bands.behind ≡ 32)
+  pub more : (length band.plain ≡ 32) × (length band.weighted ≡ 32)
+  pub low : Most 2147483647 bands.columns × Most 2147483647 bands.rows × Most 2147483647 bands.behind

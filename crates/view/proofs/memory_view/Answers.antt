@@ -1,36 +1,23 @@
 -- An accepted view lies inside every memory; the part and its place are those of the side.
-use Rattle.std.proofs.Common.{◌≡◌, ◌∙◌, sym}
-use Rattle.model.specs.declared.Verdict.TheVariants.{Accepted}
-use Rattle.view.specs.Viewing.{memory_view_answer}
-use Rattle.view.proofs.Views.{answer_of, part_none, part_host, part_card, place_host, place_card}
+use mathlib.Core.Path.{refl, ◌∙◌}
+use Rattle.model.proofs.Verdicts.{faulty}
+use Rattle.view.proofs.Views.{part_none, part_of, place_of}
 use Rattle.view.proofs.memory_view.Goals as goal
 
-pub returns-in_default : goal.returns-in_default
-returns-in_default c =
-    let nay = c.in_default.not-Accepted in
-    let e = answer_of _ _ _ _ _ _ c.memory_side-v.ensures in
-    record { cells = part_none _ _ _ _ _ _ nay e; own = λ a. absurd (nay (e ∙ a)) }
+pub returns-in-Ok-Host-clause-cells : goal.returns-in-Ok-Host-clause-cells
+returns-in-Ok-Host-clause-cells c = rw c.in-Ok-Host.field-0-is at (part_of _ _ _ _ _ _ c.in-Ok-Host.ensures)
 
-pub returns-then-v-eq0-clause-cells : goal.returns-then-v-eq0-clause-cells
-returns-then-v-eq0-clause-cells c =
-    let a = c.args in
-    let e : Accepted ≡ memory_view_answer a.host.now a.card.now a.latest.now a.first a.end = sym c.in-Accepted.is ∙ answer_of _ _ _ _ _ _ c.memory_side-v.ensures in
-    part_host _ _ _ _ _ e _ c.memory_side-v.ensures c.if-v-eq0.true
+pub returns-in-Ok-Host-clause-own : goal.returns-in-Ok-Host-clause-own
+returns-in-Ok-Host-clause-own c = λ _. rw c.in-Ok-Host.field-0-is at (place_of _ _ _ _ _ _ c.in-Ok-Host.ensures c.args.host.ref_ptr c.args.card.ref_ptr)
 
-pub returns-then-v-eq0-clause-own : goal.returns-then-v-eq0-clause-own
-returns-then-v-eq0-clause-own c =
-    let a = c.args in
-    let e : Accepted ≡ memory_view_answer a.host.now a.card.now a.latest.now a.first a.end = sym c.in-Accepted.is ∙ answer_of _ _ _ _ _ _ c.memory_side-v.ensures in
-    λ _. place_host _ _ _ _ _ e _ c.memory_side-v.ensures _ _ c.if-v-eq0.true
+pub returns-in-Ok-Card-clause-cells : goal.returns-in-Ok-Card-clause-cells
+returns-in-Ok-Card-clause-cells c = rw c.in-Ok-Card.field-0-is at (part_of _ _ _ _ _ _ c.in-Ok-Card.ensures)
 
-pub returns-clause-cells : goal.returns-clause-cells
-returns-clause-cells c =
-    let a = c.args in
-    let e : Accepted ≡ memory_view_answer a.host.now a.card.now a.latest.now a.first a.end = sym c.in-Accepted.is ∙ answer_of _ _ _ _ _ _ c.memory_side-v.ensures in
-    part_card _ _ _ _ _ e _ c.memory_side-v.ensures c.if-v-eq0.false
+pub returns-in-Ok-Card-clause-own : goal.returns-in-Ok-Card-clause-own
+returns-in-Ok-Card-clause-own c = λ _. rw c.in-Ok-Card.field-0-is at (place_of _ _ _ _ _ _ c.in-Ok-Card.ensures c.args.host.ref_ptr c.args.card.ref_ptr)
 
-pub returns-clause-own : goal.returns-clause-own
-returns-clause-own c =
-    let a = c.args in
-    let e : Accepted ≡ memory_view_answer a.host.now a.card.now a.latest.now a.first a.end = sym c.in-Accepted.is ∙ answer_of _ _ _ _ _ _ c.memory_side-v.ensures in
-    λ _. place_card _ _ _ _ _ e _ c.memory_side-v.ensures _ _ c.if-v-eq0.false
+pub returns-in-Err-clause-cells : goal.returns-in-Err-clause-cells
+returns-in-Err-clause-cells c = (part_none _ _ _ _ _ _ c.in-Err.ensures).1
+
+pub returns-in-Err-clause-own : goal.returns-in-Err-clause-own
+returns-in-Err-clause-own c = λ a. absurd (faulty refl ((part_none _ _ _ _ _ _ c.in-Err.ensures).0 ∙ a))

@@ -23,8 +23,8 @@ pub put_declarations-made-requires : goal.put_declarations-made-requires
 put_declarations-made-requires c =
     (declarations_at _ _ c.requires.0, record { place = c.requires.0.place; room = omega (arith, bounds _ _ c.requires.0) }, omega (arith, called_at _ _ c.requires.0))
 
-pub overflow_mul-at : goal.overflow_mul-at
-overflow_mul-at c = record { fits = omega (arith, called_at _ _ c.requires.0) }
+pub overflow_mul-made : goal.overflow_mul-made
+overflow_mul-made c = record { fits = omega (arith, called_at _ _ c.requires.0) }
 
 pub overflow_add-first : goal.overflow_add-first
 overflow_add-first c = record { fits = omega (arith, bounds _ _ c.requires.0) }

@@ -1,21 +1,8 @@
 -- `writer::put_entry` writes the entry of a plain plan's body.
-use mathlib.Core.List.{[], ◌∷◌, ◌++◌}
+use mathlib.Core.Path.{◌∙◌}
 use native.Mathlib.Omega.{arith}
-use lib.ListN.{length-set}
-use lib.Seq.{sets-eq}
-use Rattle.files.specs.Files.{u16_bytes}
-use Rattle.given.specs.Inner.Over.{over}
+use Rattle.given.proofs.Records.{high_byte}
 use Rattle.writer.proofs.put_entry.Goals as goal
 
-pub bounds-out-1 : goal.bounds-out-1
-bounds-out-1 c = simp length-set (omega arith)
-
-pub bounds-out-2 : goal.bounds-out-2
-bounds-out-2 c = simp length-set (omega arith)
-
-pub bounds-out-3 : goal.bounds-out-3
-bounds-out-3 c = simp length-set (omega arith)
-
 pub returns : goal.returns
-unfolding over
-returns c = sets-eq (u16_bytes c.args.records ++ (0 ∷ 0 ∷ [])) c.args.out.now 0 c.requires
+returns c = c.put_bytes.ensures ∙ rw (c.to_le_bytes.ensures, high_byte c.args.records (omega arith))

@@ -1,9 +1,6 @@
--- what is written ends no later than the bytes
-use Rattle.std.proofs.Common.{length, ◌-◌, ◌≤◌}
+-- the bytes that are left
+use Rattle.std.proofs.Common.{length}
 use Rattle.console.proofs.streams.write.Given as goal
 
-abbrev pub invariant-loop-done : goal.invariant-loop-done
-invariant-loop-done l = l.done ≤ length l.bytes
-
-abbrev pub decreases-loop-done : goal.decreases-loop-done
-decreases-loop-done l = length l.bytes - l.done
+abbrev pub decreases-loop-rest : goal.decreases-loop-rest
+decreases-loop-rest g l = length l.rest

@@ -3,17 +3,17 @@ use Rattle.std.proofs.Common.{arith}
 use Rattle.listing.proofs.Found.{parts}
 use Rattle.listing.proofs.block.+block.Goals as goal
 
-pub block-waiting-requires : goal.block-waiting-requires
-block-waiting-requires t c =
+pub block-requires : goal.block-requires
+block-requires g t c =
     let n = parts c.loop-r.invariant.walks c.loop-r-test.true c.record_in-x.ensures _ _ c.first_arm.ensures.arm c.second_arm.ensures.arm in
-    (omega (arith, n.inside), (omega arith, omega arith, omega (arith, n.inside), n.one))
+    λ κs s. (omega (arith, n.inside), (s, (omega arith, omega arith, omega (arith, n.inside), n.one)))
 
-pub block-waiting-requires-in-loop-r : goal.block-waiting-requires-in-loop-r
-block-waiting-requires-in-loop-r t c =
+pub block-requires-in-loop-r : goal.block-requires-in-loop-r
+block-requires-in-loop-r g t c =
     let n = parts c.loop-r.invariant.walks c.loop-r-test.true c.record_in-x.ensures _ _ c.first_arm.ensures.arm c.second_arm.ensures.arm in
-    (omega (arith, n.inside), (omega arith, omega arith, omega (arith, n.inside), n.two))
+    λ κs s. (omega (arith, n.inside), (s, (omega arith, omega arith, omega (arith, n.inside), n.two)))
 
 pub loop-r-preserved : goal.loop-r-preserved
-loop-r-preserved t c =
+loop-r-preserved g t c =
     let n = parts c.loop-r.invariant.walks c.loop-r-test.true c.record_in-x.ensures _ _ c.first_arm.ensures.arm c.second_arm.ensures.arm in
     record { above = omega arith; inside = n.inside; walks = n.rest }

@@ -1,14 +1,11 @@
 -- The sums are those of the rows passed.
-use Rattle.std.proofs.Common.{◌≡◌, ◌≤◌, ◌%◌, length, drop}
-use Rattle.sums.specs.Inner.Columns.{RowsOf}
+use Rattle.std.proofs.Common.{◌≡◌}
+use Rattle.sums.proofs.Rows.{RowsTaken}
 use Rattle.sums.proofs.stretches.band_of.Given as goal
 
-abbrev pub invariant-loop-at : goal.invariant-loop-at
-invariant-loop-at l = record {
-  whole : l.at % 32 ≡ 0;
-  within : l.at ≤ length l.x;
-  rows : RowsOf (drop l.at l.x) l.plain l.weighted;
+abbrev pub invariant-loop-row : goal.invariant-loop-row
+invariant-loop-row l = record {
+  finite : (goal.iterator-loop-row).is_finite l.row-iterator;
+  size : l.row-iterator.size ≡ 32;
+  taken : RowsTaken l.x l.row-iterator.rest.now l.band.plain l.band.weighted;
 }
-
-abbrev pub decreases-loop-at : goal.decreases-loop-at
-decreases-loop-at l = l.at

@@ -1,29 +1,29 @@
 -- One byte more in front: it adds one to the number of each after it.
-use Rattle.std.proofs.Common.{◌-◌, ◌∙◌, refl, ap, arith}
+use Rattle.std.proofs.Common.{◌≡◌, [], ◌∷◌, length, ◌∙◌, arith, ap, length-append}
 use Rattle.sums.specs.Sums.{plain_sum, weighted_sum}
-use Rattle.sums.proofs.Parts.{plain_none, weighted_none, plain_next, weighted_next, all}
+use Rattle.sums.proofs.Parts.{passed_none, passed_next, left_within, behind_all}
 use Rattle.sums.proofs.stretches.rest.Goals as goal
 
-pub loop-i-init : goal.loop-i-init
-loop-i-init c =
+pub loop-b-init : goal.loop-b-init
+loop-b-init c =
+    let e : c.into_iter-b-iterator.result.iter.rest.now ≡ c.args.x.now = cc in
+    record { finite = tt; passed = rw e (passed_none _); plain_low = omega arith; weighted_low = omega arith }
+
+pub loop-b-preserved : goal.loop-b-preserved
+loop-b-preserved c =
+    let v = c.loop-b.invariant in
+    let last = c.in-Some.ensures.steps in
+    let within = left_within c.args.x.now c.loop-b.b-iterator.iter.rest.now v.passed.whole in
+    let one_less = ap length last ∙ length-append c.next.new.self.iter.rest.now (c.in-Some.b.now ∷ []) in
     record {
-      within = omega arith;
-      plain_so_far = plain_none c.args.x.now _ refl;
-      weighted_so_far = weighted_none c.args.x.now _ refl;
+      finite = tt;
+      passed = passed_next _ _ _ _ _ _ _ _ last c.with_byte-t.ensures.plain c.with_byte-t.ensures.weighted v.passed;
       plain_low = omega arith;
       weighted_low = omega arith;
     }
 
-pub loop-i-preserved : goal.loop-i-preserved
-loop-i-preserved c =
-    let l = c.loop-i in
-    let p = plain_next c.args.x.now l.i (omega arith) (omega arith) in
-    let q = weighted_next c.args.x.now l.i (omega arith) (omega arith) in
-    let k = c.type_inv.x (l.i - 1) in
-    record { within = omega arith; plain_so_far = omega arith; weighted_so_far = omega arith; plain_low = omega arith; weighted_low = omega arith }
-
 pub returns : goal.returns
 returns c =
-    let l = c.loop-i in
-    let e = all _ l.i (omega arith) in
-    record { plain = l.invariant.plain_so_far ∙ ap plain_sum e; weighted = l.invariant.weighted_so_far ∙ ap (weighted_sum 1) e; low = (omega arith, omega arith) }
+    let v = c.loop-b.invariant in
+    let e = behind_all _ _ c.in-None.ensures.steps.0 in
+    record { plain = v.passed.plain_so_far ∙ ap plain_sum e; weighted = v.passed.weighted_so_far ∙ ap (weighted_sum 1) e; low = (omega arith, omega arith) }

@@ -1,9 +1,0 @@
--- inside the table, from the start on
-use Rattle.std.proofs.Common.{length, ◌-◌, ◌≤◌}
-use Rattle.console.proofs.page.row_end.Given as goal
-
-abbrev pub invariant-loop-i : goal.invariant-loop-i
-invariant-loop-i l = (l.start ≤ l.i) × (l.i ≤ length l.table)
-
-abbrev pub decreases-loop-i : goal.decreases-loop-i
-decreases-loop-i l = length l.table - l.i
