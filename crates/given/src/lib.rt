@@ -12,14 +12,21 @@ ghost use Rattle.given.specs.Inner.Over.{DeclarationsAt, over, bytes_of};
 use reading::kinds::{MARK, NEED, R, W};
 use reading::{Fields, record_at};
 
-// A record.
+// A record, byte by byte: as an array that is copied it can go by the stack, and what is loaded again so soon waits.
 pub fn put_record(out: &mut [u8], x: Fields)
     requires { 8 ≤ length out.old }
     ensures { out.new ≡ over (record_bytes x) out.old }
 {
     let [p0, p1] = x.p.to_le_bytes();
     let [q0, q1] = x.q.to_le_bytes();
-    out[..8].copy_from_slice(&[x.kind, x.side, x.array, x.step, p0, p1, q0, q1]);
+    out[0] = x.kind;
+    out[1] = x.side;
+    out[2] = x.array;
+    out[3] = x.step;
+    out[4] = p0;
+    out[5] = p1;
+    out[6] = q0;
+    out[7] = q1;
 }
 
 // A need or a mark, of kind 4 or 5.

@@ -1,6 +1,6 @@
 -- The cells of a memory that a loop has passed: those it has stored, and every other as it was.
 use mathlib.Core.Path.{◌≡◌, refl, sym, ap, ◌∙◌}
-use mathlib.Core.Bool.{Bool, true, false, cond, and-false, true≢false}
+use mathlib.Core.Bool.{Bool, true, false, cond, ◌&&◌, and-false, true≢false}
 use mathlib.Core.List.{List}
 use Prim.Native.Nat.{ℕ, ◌+◌, ◌-◌, ◌≤◌, ◌<◌}
 use native.Nat.{ℕᴺ_discrete}
@@ -12,9 +12,9 @@ use Rattle.std.proofs.lemmas.List.{get_or-take, get_or-drop, length-take, length
 use lib.Seq.{get_or-set_same, get_or-set_other}
 use borrow.Author.Tests.{lt-ltb, le-ltb, le-leb, lt-leb}
 use Rattle.model.specs.Records.{distance, stepped}
-use Rattle.model.proofs.Booleans.{and_in}
+use Rattle.model.proofs.Booleans.{and_in, and_out}
 use Rattle.model.proofs.Numbering.{stepped_first, stepped_next, stepped_none, stepped_bounds, stepped_one}
-use Rattle.memories.specs.Inner.Ranges.{Room, CurrentTo, Passed, FirstStale, Changed, Same, of_side, ChangedOn}
+use Rattle.memories.specs.Inner.Ranges.{Room, AllCurrent, CurrentTo, Passed, FirstStale, Changed, Same, of_side, ChangedOn}
 
 -- how far apart cells are, as a byte says it: 0 and 1 mean each cell
 pub distance_each : (step : ℕ) → step ≤ 1 → distance step ≡ 1
@@ -64,7 +64,20 @@ module _ {k from to : ℕ} {new : ℕ → ℕ} {before l : List ℕ} {c : ℕ} (
   pub storing_all : to ≤ c → Changed k from to new before l
   storing_all h = w.rest l (changed_none h)
 
--- more is stored behind what is stored, where each cell gets what `new` says of it
+-- more is stored before what is stored
+pub changed_less : {from mid to : ℕ} {new : ℕ → ℕ} {before between after : List ℕ} → from ≤ mid → mid ≤ to → Changed 1 mid to new before between → Changed 1 from mid new between after → Changed 1 from to new before after
+changed_less {from} {mid} {to} {new} {before} {between} {after} h g a b = record { size = b.size ∙ a.size; cell = cell }
+  where
+    cell : (k : ℕ) → get_or after k 0 ≡ cond (stepped 1 from to k) (new k) (get_or before k 0)
+    cell k = elim (dec_lt k mid) [
+      | yes l ↦ elim (dec_lt k from) [
+        | yes m ↦ b.cell k ∙ rw (lt-leb from k m) (a.cell k ∙ rw (lt-leb mid k l))
+        | no m ↦ b.cell k ∙ rw (each from mid k (omega arith) l, each from to k (omega arith) (omega arith))
+      ]
+      | no l ↦ b.cell k ∙ rw (le-ltb k mid (omega arith), and-false (leb from k)) (a.cell k ∙ rw (stepped_one mid to k, stepped_one from to k, le-leb mid k (omega arith), le-leb from k (omega arith)))
+    ]
+
+-- and behind it, where each cell gets what `new` says of it
 pub changed_behind : {from mid to v : ℕ} {new : ℕ → ℕ} {before between after : List ℕ} → from ≤ mid → mid ≤ to → ((c : ℕ) → mid ≤ c → c < to → v ≡ new c) →
     Changed 1 from mid new before between → Changed 1 mid to (λ c. v) between after → Changed 1 from to new before after
 changed_behind {from} {mid} {to} {v} {new} {before} {between} {after} h g e a b = record { size = b.size ∙ a.size; cell = cell }
@@ -100,6 +113,20 @@ changed_again {k} {from} {to} {new} {new'} {before} {between} {after} a b = reco
         get_or after c 0 ≡ cond s (new' c) (get_or before c 0)
     go c true e f = e
     go c false e f = e ∙ f
+
+-- cells that are current: one, and those of two ranges in a row
+pub current_one : (copies latest : List ℕ) (c : ℕ) → get_or copies c 0 ≡ get_or latest c 0 → AllCurrent copies latest c (c + 1)
+current_one copies latest c e k h l = let q : k ≡ c = omega arith in rw q e
+
+pub current_more : (copies latest : List ℕ) (from mid to : ℕ) → AllCurrent copies latest from mid → AllCurrent copies latest mid to → AllCurrent copies latest from to
+current_more copies latest from mid to a b k h l = elim (dec_lt k mid) [
+  | yes g ↦ a k h g
+  | no g ↦ b k (omega arith) l
+]
+
+-- both halves of a block
+pub current_halves : (copies latest : List ℕ) (n c : ℕ) (x y : Bool) → (x ≡ true → AllCurrent copies latest c (c + n)) → (y ≡ true → AllCurrent copies latest (c + n) (c + n + n)) → (x && y) ≡ true → AllCurrent copies latest c (c + n + n)
+current_halves copies latest n c x y a b e = let p = and_out x y e in current_more copies latest c (c + n) (c + n + n) (a p.0) (b p.1)
 
 -- a cell of a part of a memory
 part_at : (l : List ℕ) (from n c : ℕ) → from ≤ c → c < from + n → get_or (take n (drop from l)) (c - from) 0 ≡ get_or l c 0

@@ -77,12 +77,14 @@ pub fn fill(memory: &mut [u64], from: usize, to: usize, stamp: u64)
     }
 }
 
-// Copies them from one memory to another.
+// Copies them from one memory to another. Not by the slice's own `copy_from_slice`: it would ask who links the archive for `memmove`.
 pub fn copy_cells(source: &[u64], target: &mut [u64], from: usize, to: usize)
     requires { Room from to source.now × Room from to target.old }
     ensures { Changed 1 from to (λ c. get_or source.now c 0) target.old target.new }
 {
-    target[from..to].copy_from_slice(&source[from..to]);
+    for c in from..to {
+        target[c] = source[c];
+    }
 }
 
 // Puts a stamp in the cells `from`, `from` + step and so on below `to`. Where that is each cell, it goes the fast way.

@@ -22,12 +22,14 @@ use reading::kinds::{BRANCH, CALL, PLACES, PLAIN};
 use reading::{Fields, first_arm, record_at, second_arm};
 use sizes::body0_end;
 
-// Bytes as they are.
+// Bytes as they are. Not by the slice's own `copy_from_slice`: it would ask who links the archive for `memmove`.
 pub fn put_bytes(out: &mut [u8], bytes: &[u8])
     requires { length bytes.now ≤ length out.old }
     ensures { out.new ≡ over bytes.now out.old }
 {
-    out[..bytes.len()].copy_from_slice(bytes);
+    for i in 0..bytes.len() {
+        out[i] = bytes[i];
+    }
 }
 
 // What stands for a call of the pass at e: what its declarations give, and its other records byte for byte.
