@@ -1,10 +1,11 @@
 // The records that concern a cell: those that cover it, and the branches and loops that hold one which does. A walk for the cell passes all others by.
 #![tactic(auto)]
 
-ghost use Rattle.std.specs.Prelude.{◌≡◌, ◌<◌};
+ghost use Rattle.std.specs.Prelude.{◌≡◌, ◌<◌, length};
 ghost use Rattle.model.specs.Records.{distance, stepped};
 ghost use Rattle.reading.specs.Bytes.{record_count, fields_at};
-ghost use Rattle.lookahead.specs.Inner.Ahead.{covers, nearest, IsPlain, Spare, Ahead};
+ghost use Rattle.format.specs.Inner.Walks.{Plain};
+ghost use Rattle.lookahead.specs.Inner.Ahead.{covers, nearest, IsPlain, Ahead};
 
 use model::Array;
 use reading::kinds::{BRANCH, NEED};
@@ -21,7 +22,7 @@ pub struct PlainPlan<'a> {
 impl<'a> PlainPlan<'a> {
     // The fields of record r.
     pub fn record(&self, r: usize) -> Fields
-        requires { IsPlain self.now × (r < record_count self.now.file.now) }
+        requires { Plain self.now.file.now self.now.bodies × (r < record_count self.now.file.now) }
         ensures { result ≡ fields_at self.now.file.now r }
     {
         record_at(self.file, self.bodies, r)
@@ -60,19 +61,23 @@ impl Spot {
         requires { r < 65536 }
         ensures { result ≡ nearest x self.array.0 self.offset r next }
     {
-        let concerns = if BRANCH <= x.kind {
-            next < r + 1 + first_arm(x) + second_arm(x)
-        } else {
-            self.is_covered(x)
-        };
-        if concerns { r } else { next }
+        // Each kind has its own answer: with one condition over both, the choice is a jump where it need be none.
+        if BRANCH <= x.kind {
+            return if next < r + 1 + first_arm(x) + second_arm(x) {
+                r
+            } else {
+                next
+            };
+        }
+        if self.is_covered(x) { r } else { next }
     }
 
     // Fills in the table for the cell, from the last record to the first. Where no record is left that concerns it, the entry is the number of the records.
     pub fn look_ahead(self, plan: PlainPlan<'_>, ahead: &mut [usize])
-        requires { IsPlain plan × Spare plan.file.now ahead.old }
+        requires { IsPlain plan × (record_count plan.file.now < length ahead.old) }
         ensures { Ahead plan.entry.file.now self.array.0 self.offset 0 ahead.new }
     {
+        ahead[plan.records] = plan.records;
         let mut next = plan.records;
         for r in (0..plan.records).rev() {
             next = self.nearest(plan.record(r), r, next);

@@ -17,7 +17,7 @@ pub block-t-requires : goal.block-t-requires
 block-t-requires c =
     let p = c.requires in (
       record {
-        plain = p.0;
+        plain = p.0.plain;
         array = c.args.spot.array.0;
         offset = c.args.spot.offset;
         is = omega (arith, p.2);

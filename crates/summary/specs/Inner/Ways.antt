@@ -8,10 +8,10 @@ use Rattle.model.specs.Inner.Statuses.{Status}
 use Rattle.model.specs.Inner.Stops.{Goes, Stops}
 use Rattle.reading.specs.declared.Fields.{Fields}
 use Rattle.reading.specs.Bytes.{layout_of, record_count, fields_at, first_arm}
-use Rattle.format.specs.Inner.Walks.{Walkable, block_between}
+use Rattle.format.specs.Inner.Walks.{Plain, Walkable, block_between}
 use Rattle.statuses.specs.declared.acts.Found.{Found}
 use Rattle.statuses.specs.Inner.Ran.{Below, Ran}
-use Rattle.lookahead.specs.Inner.Ahead.{cell_at, IsPlain, Ahead}
+use Rattle.lookahead.specs.Inner.Ahead.{cell_at, Ahead}
 use Rattle.statuses.specs.Inner.Sets.{statuses, index, In, number_of}
 use Rattle.summary.specs.declared.Arm.{Arm}
 use Rattle.summary.specs.declared.Row.{Row}
@@ -46,7 +46,7 @@ cell_of class = class - 1
 
 -- the walk of that cell can begin, which is cell `offset` of an array
 pub record Ready (walk : Walk) (rows : List Row) (low : Option Record) : Type 0 where
-  pub plain : IsPlain walk.plan
+  pub plain : Plain walk.plan.file.now walk.plan.bodies
   pub array : ℕ
   pub offset : ℕ
   pub is : cell_of walk.class ≡ cell_at walk.plan.file.now array offset

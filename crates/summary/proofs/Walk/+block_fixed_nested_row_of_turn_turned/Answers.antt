@@ -24,12 +24,12 @@ use Rattle.summary.proofs.Walk.+block_fixed_nested_row_of_turn_turned.Goals as g
 -- from record `at` on to the next record that concerns the cell
 skipped : {walk : Walk} {rows : List Row} {low : Option Record} {at end n : ℕ} → Ready walk rows low → Walkable walk.plan.file.now at end → end ≤ record_count walk.plan.file.now → at ≤ end → n ≡ get_or walk.ahead.now at 0 → n < end →
     Skipped walk.plan.file.now (cell_of walk.class) at n end
-skipped p g few h e l = skip_on _ _ p.plain.plain _ _ _ p.is p.inside _ p.leads _ _ _ g few h e l
+skipped p g few h e l = skip_on _ _ p.plain _ _ _ p.is p.inside _ p.leads _ _ _ g few h e l
 
 -- and what is known of it once it is read
 read_there : {walk : Walk} {rows : List Row} {low : Option Record} {at end n : ℕ} {x : Fields} → Ready walk rows low → Walkable walk.plan.file.now at end → end ≤ record_count walk.plan.file.now → at ≤ end → n ≡ get_or walk.ahead.now at 0 → n < end →
     x ≡ fields_at walk.plan.file.now n → Here walk.plan.file.now n end x
-read_there p g few h e l q = here _ _ _ _ p.plain.plain l few (skipped p g few h e l).walk _ q
+read_there p g few h e l q = here _ _ _ _ p.plain l few (skipped p g few h e l).walk _ q
 
 -- what holds where there is none
 match_none : (A : Type 0) (B : ℕ → Type 0) (o : Option ℕ) → MatchOption o A B → ((x : ℕ) → o ≡ Some x → ⊥) → A
@@ -40,7 +40,7 @@ pub block-returns-then-end-r : goal.block-returns-then-end-r
 block-returns-then-end-r t c =
     let l = c.loop-t in
     let p = c.requires in
-    let s = skip_rest _ _ p.0.plain.plain _ _ _ p.0.is p.0.inside _ p.0.leads _ _ _ l.invariant.2 p.2 l.invariant.1 refl c.if-end-r.true in
+    let s = skip_rest _ _ p.0.plain _ _ _ p.0.is p.0.inside _ p.0.leads _ _ _ l.invariant.2 p.2 l.invariant.1 refl c.if-end-r.true in
     record { ran = prefix_all _ _ _ _ _ _ _ (omega arith) (prefix_skip _ _ _ _ _ _ _ _ l.invariant.3 s); exact = l.invariant.4 }
 
 pub block-nested-t-requires : goal.block-nested-t-requires
@@ -92,7 +92,7 @@ block-loop-t-preserved t c =
       omega (arith, c.if-end-r.false),
       after_act k.steps low,
       step_act _ _ _ _ _ c.if-end-r.false s.walk _ c.record-x.ensures _ _ _ (prefix_skip _ _ _ _ _ _ _ _ l.invariant.3 s) _ _ p.0.is p.0.inside (k.low, low)
-          (skip_to _ _ p.0.plain.plain _ _ _ p.0.is p.0.inside _ p.0.leads _ _ _ l.invariant.2 p.2 l.invariant.1 refl c.if-end-r.false _ c.record-x.ensures (omega arith))
+          (skip_to _ _ p.0.plain _ _ _ p.0.is p.0.inside _ p.0.leads _ _ _ l.invariant.2 p.2 l.invariant.1 refl c.if-end-r.false _ c.record-x.ensures (omega arith))
           c.acted-t.ensures,
       exact_lower _ _ _ _ _ _ c.acted-t.ensures.lower l.invariant.4,
       l.invariant.5,
