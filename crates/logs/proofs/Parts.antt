@@ -20,7 +20,7 @@ use Rattle.logs.specs.declared.Stage.{Stage}
 use Rattle.logs.specs.Logs.{Begins, Finding, off, stuck, Off, Stuck, Finds}
 use Rattle.logs.specs.Logged.{entries_of, answer_to, unplaced, Says}
 use Rattle.logs.proofs.Following.{count_is}
-use Rattle.logs.specs.Inner.Following.{Trail, trail, stood, moved_to, number_of, At, Comes, Followed, Awaits, Waits, HaveLed, Underway, LedOn}
+use Rattle.logs.specs.Inner.Following.{Trail, trail, stood, moved_to, number_of, staged, held_at, held_after, At, Comes, Followed, Awaits, Waits, HaveLed, Underway, LedOn}
 
 -- a refusal goes by the entries up to the refused one
 module _ (plan : Plan) (l k : List ℕ) (i : ℕ) (same : take (suc i) l ≡ take (suc i) k) (inside : i < length k) where
@@ -152,6 +152,23 @@ module _ (f : List ℕ) (bodies : ℕ) where
               };
           counts = omega arith;
         }
+
+  -- either, where the log goes on from a place
+  pub led_after : (p : Place) (waiting : Option ℕ) (read : ℕ) (cells room : List ℕ) (next this : ℕ) → waiting ≡ Some this →
+      (n : Result Place Refusal) (room' cells' : List ℕ) →
+      ((l : List ℕ) (i : ℕ) → Comes f l bodies (moved_to (spot p room)) cells i this next → Followed f l bodies (trail n room') cells' i) →
+      LedOn f bodies (next ∷ []) (staged (held_at p waiting read) cells room) (staged (held_after n waiting read next) cells' room')
+  led_after p waiting read cells room next this waited (Ok q) room' cells' followed = followed_on (staged (held_at p waiting read) cells room) p refl next this waited (Ok q) room' cells' followed refl (read + 1) refl
+  led_after p waiting read cells room next this waited (Err e) room' cells' followed = refused_there (staged (held_at p waiting read) cells room) p refl next this waited (Err e) room' cells' followed (some_number e)
+
+  -- and which of the two it is
+  pub on_after : (t : Stage) (n : Result Place Refusal) (q : Place) → n ≡ Ok q → (waiting : Option ℕ) (read next : ℕ) (cells room : List ℕ) →
+      LedOn f bodies (next ∷ []) t (staged (held_after n waiting read next) cells room) → LedOn f bodies (next ∷ []) t (staged (held_at q (Some next) (read + 1)) cells room)
+  on_after t n q is waiting read next cells room = subst (λ (r : Result Place Refusal). LedOn f bodies (next ∷ []) t (staged (held_after r waiting read next) cells room)) is
+
+  pub off_after : (t : Stage) (n : Result Place Refusal) (e : Refusal) → n ≡ Err e → (waiting : Option ℕ) (read next : ℕ) (cells room : List ℕ) →
+      LedOn f bodies (next ∷ []) t (staged (held_after n waiting read next) cells room) → LedOn f bodies (next ∷ []) t (record { place = Err e; waiting = waiting; read = read; cells = cells; room = room })
+  off_after t n e is waiting read next cells room = subst (λ (r : Result Place Refusal). LedOn f bodies (next ∷ []) t (staged (held_after r waiting read next) cells room)) is
 
   -- the entries of a part, of which i are read
   module _ (part : List ℕ) (t : Stage) where

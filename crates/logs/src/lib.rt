@@ -9,7 +9,7 @@ ghost use Rattle.reading.specs.Bytes.{first_arm, second_arm};
 ghost use Rattle.format.specs.Opening.{opened};
 ghost use Rattle.places.specs.Inner.Places.{spot, begun_at};
 ghost use Rattle.logs.specs.Logged.{entries_of, log_rows, unplaced, Says, Answers};
-ghost use Rattle.logs.specs.Inner.Following.{number_of, unused, Ahead, told_by, led_by, trail, moved_to, after_act, Comes, Followed, HaveLed, Underway, LedOn, staged, Opens};
+ghost use Rattle.logs.specs.Inner.Following.{number_of, unused, Ahead, told_by, led_by, trail, moved_to, after_act, Comes, Followed, held_at, held_after, HaveLed, Underway, LedOn, staged, Opens};
 
 use contents::Opened;
 use model::{Fault, Verdict};
@@ -49,17 +49,18 @@ impl Refusal {
 }
 
 // Where the entries of a log that are read, `read` of them, have led: where the run that they tell stands, with the status of each cell and the room of its places. All but the last
-// are followed; that one waits for the next, which tells the choice where it is a test. At a refusal the refused entry is the last.
+// are followed; that one waits for the next, which tells the choice where it is a test. At a refusal the refused entry is the last. The two lists stand first: with them
+// last, the compiler clears the whole stage twice where it is made.
 #[derive(Clone, Copy)]
 pub struct Stage {
+    pub cells: [u8; CELLS],
+    pub room: [u16; ROOM],
     pub place: Result<Place, Refusal>,
     pub waiting: Option<usize>,
     pub read: u64,
-    pub cells: [u8; CELLS],
-    pub room: [u16; ROOM],
 }
 
-// What changes at each entry beside the cells and the room: a value of its own while a part is followed, since reading the stage and writing it at each entry is slower.
+// What changes at each entry beside the cells and the room: apart from the stage while a part is followed, since reading the stage and writing it at each entry is slower.
 #[derive(Clone, Copy)]
 struct Held {
     place: Result<Place, Refusal>,
@@ -138,6 +139,11 @@ fn lead(p: Place, x: Fields, next: usize, room: &mut [u16]) -> Place
         return t.settle(room);
     }
     let c = choice_told(p, x, next, room);
+    // A call for each choice: each is then followed without the other's work.
+    if c == 0 {
+        let q = p.choose(x, 0, room);
+        return q.settle(room);
+    }
     let q = p.choose(x, c, room);
     q.settle(room)
 }
@@ -181,38 +187,26 @@ fn follow_entry(
     after(p, stuck, room)
 }
 
-// One entry more is read: the one that waited is held against the plan, where the run stands at p.
+// One entry more is read: the one that waited, if one did, is held against the plan, where the run stands at p.
 fn follow_next(
-    h: Held,
     p: Place,
+    waiting: Option<usize>,
     plan: &[u8],
     bodies: usize,
     next: usize,
     cells: &mut [u8],
     room: &mut [u16],
-) -> Held
-    requires { Underway plan.now bodies (staged h cells.old room.old) × (h.place ≡ Ok p) × (h.read + 1 < 2 ^ 64) }
-    ensures { LedOn plan.now bodies (next ∷ []) (staged h cells.old room.old) (staged result cells.new room.new) }
+) -> Result<Place, Refusal>
+    requires { (read : ℕ) × Underway plan.now bodies (staged (held_at p waiting read) cells.old room.old) }
+    ensures { (read : ℕ) → Underway plan.now bodies (staged (held_at p waiting read) cells.old room.old) → LedOn plan.now bodies (next ∷ []) (staged (held_at p waiting read) cells.old room.old) (staged (held_after result waiting read next) cells.new room.new) }
 {
-    let Some(this) = h.waiting else {
-        return Held {
-            waiting: Some(next),
-            read: h.read + 1,
-            ..h
-        };
-    };
-    let place = follow_entry(p, plan, bodies, this, next, cells, room);
-    if place.is_ok() {
-        return Held {
-            place,
-            waiting: Some(next),
-            read: h.read + 1,
-        };
+    match waiting {
+        Some(this) => follow_entry(p, plan, bodies, this, next, cells, room),
+        None => Ok(p),
     }
-    Held { place, ..h }
 }
 
-// The entries of a part of a log, one after another, up to the first that is refused.
+// The entries of a part of a log, one after another, up to the first that is refused. What changes at each of them stands apart until the end: put together at each entry it is slower.
 fn follow_part(
     h: Held,
     plan: &[u8],
@@ -224,15 +218,32 @@ fn follow_part(
     requires { Underway plan.now bodies (staged h cells.old room.old) × (h.read + length part.now / 2 < 2 ^ 64) }
     ensures { LedOn plan.now bodies (entries_of part.now) (staged h cells.old room.old) (staged result cells.new room.new) }
 {
-    let mut n = h;
+    let Ok(first) = h.place else {
+        return h;
+    };
+    let mut p = first;
+    let mut waiting = h.waiting;
+    let mut read = h.read;
     for i in 0..part.len() / 2 {
-        let Ok(p) = n.place else {
-            return n;
-        };
         let next = usize::from(number_at(part, 2 * i));
-        n = follow_next(n, p, plan, bodies, next, cells, room);
+        match follow_next(p, waiting, plan, bodies, next, cells, room) {
+            Ok(q) => p = q,
+            Err(refusal) => {
+                return Held {
+                    place: Err(refusal),
+                    waiting,
+                    read,
+                };
+            }
+        }
+        waiting = Some(next);
+        read += 1;
     }
-    n
+    Held {
+        place: Ok(p),
+        waiting,
+        read,
+    }
 }
 
 impl Stage {
@@ -243,17 +254,16 @@ impl Stage {
         ensures underway { Underway plan.now o.offset result × (result.read ≡ 0) }
     {
         let starts = o.array_starts;
-        let mut cells = [0u8; CELLS];
-        let mut room = [0u16; ROOM];
-        put_starts(&starts, &mut room);
-        write_statuses(plan, usize::from(o.arrays), &mut cells);
-        Stage {
+        let mut stage = Stage {
+            cells: [0u8; CELLS],
+            room: [0u16; ROOM],
             place: Ok(Place::first(o.records)),
             waiting: None,
             read: 0,
-            cells,
-            room,
-        }
+        };
+        put_starts(&starts, &mut stage.room);
+        write_statuses(plan, usize::from(o.arrays), &mut stage.cells);
+        stage
     }
 
     // The entries of a part of a log, one after another, up to the first that is refused.
@@ -274,19 +284,27 @@ impl Stage {
     }
 
     // What is said of the entries that are read. One more, whichever it is, has the last of them held against the plan.
+    fn end(&mut self, plan: &[u8], bodies: usize) -> Logged
+        requires { Underway plan.now bodies self.old × (self.old.read + 1 < 2 ^ 64) }
+        ensures { (l : List ℕ) → HaveLed plan.now l bodies self.old → Says plan.now l result }
+    {
+        self.follow(plan, bodies, &[0u8; 2]);
+        match self.place {
+            Ok(_) => unplaced(Ok(())),
+            Err(refusal) => Logged {
+                verdict: Err(Fault::Refused(refusal.number(), 0)),
+                entry: self.read - 1,
+            },
+        }
+    }
+
+    // The same of a stage that is kept.
     pub fn conclude(self, plan: &[u8], bodies: usize) -> Logged
         requires { Underway plan.now bodies self × (self.read + 1 < 2 ^ 64) }
         ensures { (l : List ℕ) → HaveLed plan.now l bodies self → Says plan.now l result }
     {
         let mut n = self;
-        n.follow(plan, bodies, &[0u8; 2]);
-        match n.place {
-            Ok(_) => unplaced(Ok(())),
-            Err(refusal) => Logged {
-                verdict: Err(Fault::Refused(refusal.number(), 0)),
-                entry: n.read - 1,
-            },
-        }
+        n.end(plan, bodies)
     }
 }
 
@@ -298,7 +316,7 @@ fn hold(plan: &[u8], o: Opened, log: &[u8]) -> Logged
     let bodies = usize::from(o.offset);
     let mut stage = Stage::first(plan, o);
     stage.follow(plan, bodies, log);
-    stage.conclude(plan, bodies)
+    stage.end(plan, bodies)
 }
 
 // The plain plan over which a log is followed, of which nothing is known but whether its length is odd; or why it is not.

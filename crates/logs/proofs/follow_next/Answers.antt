@@ -1,25 +1,19 @@
-use mathlib.Core.Path.{refl, sym, ap, ◌∙◌}
+use mathlib.Core.Path.{refl}
 use mathlib.Core.List.{[], ◌∷◌, ◌++◌}
 use Prim.Native.Nat.{◌-◌}
-use Rattle.logs.specs.Inner.Following.{stood, staged}
-use Rattle.logs.proofs.Parts.{none_waits, first_read, comes, followed_on, refused_there, goes_there, goes_nowhere}
+use Rattle.logs.specs.Inner.Following.{staged, held_at}
+use Rattle.logs.proofs.Parts.{first_read, comes, led_after}
 use Rattle.logs.proofs.follow_next.Goals as goal
 
-pub returns-in_default : goal.returns-in_default
-returns-in_default c = let v = c.args in first_read v.plan.now v.bodies (staged v.h v.cells.now v.room.now) v.p c.requires.1 v.next (none_waits _ c.in_default.not-Some) _ refl
-
-pub follow_entry-place-requires : goal.follow_entry-place-requires
-follow_entry-place-requires c =
+pub follow_entry-requires : goal.follow_entry-requires
+follow_entry-requires c =
     let v = c.args in
-    let w = c.requires.0 in
-    (w.entries ++ (v.next ∷ []), v.h.read - 1, comes v.plan.now v.bodies (staged v.h v.cells.now v.room.now) v.p c.requires.1 v.next _ c.in-Some.is w.entries [] (w.holds.goes_on (ap stood c.requires.1)))
+    let read = c.requires.0 in
+    let w = c.requires.1 in
+    (w.entries ++ (v.next ∷ []), read - 1, comes v.plan.now v.bodies (staged (held_at v.p v.waiting read) v.cells.now v.room.now) v.p refl v.next _ c.in-Some.is w.entries [] (w.holds.goes_on refl))
 
-pub returns-then-is_ok : goal.returns-then-is_ok
-returns-then-is_ok c =
-    let v = c.args in
-    followed_on v.plan.now v.bodies (staged v.h v.cells.now v.room.now) v.p c.requires.1 v.next _ c.in-Some.is _ _ _ c.follow_entry-place.ensures.followed (goes_there _ (sym c.is_ok.ensures.value ∙ c.if-is_ok.true)) _ refl
+pub returns-in-Some : goal.returns-in-Some
+returns-in-Some c = λ read w. let v = c.args in led_after v.plan.now v.bodies v.p v.waiting read v.cells.now v.room.now v.next _ c.in-Some.is _ _ _ c.follow_entry.ensures.followed
 
-pub returns : goal.returns
-returns c =
-    let v = c.args in
-    refused_there v.plan.now v.bodies (staged v.h v.cells.now v.room.now) v.p c.requires.1 v.next _ c.in-Some.is _ _ _ c.follow_entry-place.ensures.followed (goes_nowhere _ (sym c.is_ok.ensures.value ∙ c.if-is_ok.false))
+pub returns-in-None : goal.returns-in-None
+returns-in-None c = λ read w. let v = c.args in first_read v.plan.now v.bodies (staged (held_at v.p v.waiting read) v.cells.now v.room.now) v.p refl v.next c.in-None.is _ refl

@@ -109,6 +109,15 @@ pub record Followed (f l : List ℕ) (bodies : ℕ) (m : Trail) (cells : List �
 abbrev pub staged : Held → List ℕ → List ℕ → Stage
 staged h cells room = record { place = h.place; waiting = h.waiting; read = h.read; cells = cells; room = room }
 
+-- what changes at each entry, where the log goes on from a place
+abbrev pub held_at : Place → Option ℕ → ℕ → Held
+held_at p waiting read = record { place = Ok p; waiting = waiting; read = read }
+
+-- the same once the entry that waited is followed, if one did, and `next` is read
+abbrev pub held_after : Result Place Refusal → Option ℕ → ℕ → ℕ → Held
+held_after (Ok p) waiting read next = held_at p (Some next) (read + 1)
+held_after (Err e) waiting read next = record { place = Err e; waiting = waiting; read = read }
+
 -- the last of the entries l waits, if there is one
 abbrev pub Awaits : List ℕ → Option ℕ → Type 0
 Awaits l None = length l ≡ 0

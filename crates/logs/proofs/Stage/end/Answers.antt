@@ -6,7 +6,7 @@ use lib.ListN.{length}
 use Rattle.logs.specs.Logged.{entries_of}
 use Rattle.logs.proofs.Following.{count_is}
 use Rattle.logs.proofs.Parts.{said_refused, said_accepted, refused_at}
-use Rattle.logs.proofs.Stage.conclude.Goals as goal
+use Rattle.logs.proofs.Stage.end.Goals as goal
 
 -- the entry that is read more, whichever it is
 one : length (entries_of (0 ∷ 0 ∷ [])) ≡ 1
