@@ -1,12 +1,14 @@
 -- After the run: the memories hold its last configuration, and the answer is that of its ending.
 use mathlib.Core.Path.{◌≡◌, refl, sym, ap, ◌∙◌}
+use mathlib.Core.Bool.{true≢false}
 use mathlib.Core.List.{List, ◌++◌}
 use Prim.Native.Nat.{ℕ, ◌+◌, ◌-◌, ◌≤◌, ◌<◌}
 use native.Mathlib.Decide.{dec_lt}
 use native.Mathlib.Omega.{arith}
 use lib.ListN.{length, get_or, drop, length-append, length-drop, length-map, get_or-append}
 use lib.Seq.{get_or-append-add, get_or-drop, ext_get_or}
-use Rattle.std.specs.Prelude.{Option, None, Some, IsSomeAnd, Result, Ok, Err, IsOkAnd, MatchResult}
+use Rattle.std.specs.Option.{unwrap_or}
+use Rattle.std.specs.Prelude.{Option, None, Some, IsSome, Result, Ok, Err, IsOkAnd, MatchResult}
 use Rattle.model.specs.declared.Fault.{Fault}
 use Rattle.model.specs.Verdicts.{Verdict, Accepted, where_accepted}
 use Rattle.model.proofs.Verdicts.{where_accepts, where_faulty}
@@ -48,9 +50,9 @@ module _ (n : ℕ) (held : ℕ → ℕ) (before after : List ℕ) (room : n ≤ 
   memory_is = ext_get_or 0 after (table held n ++ drop n before) size (λ c h. entry c)
 
 -- a run that has ended, from memories h, c and l and a tally t
-module _ (f choices : List ℕ) (m : Runner) (own others latest : List ℕ) (u : Tally) (w : Reaches f choices m own others latest u)
+module _ (f choices : List ℕ) (m : Runner) (own others latest : List ℕ) (u : Tally) (w : Reaches f choices m own others latest u) (over : IsSome m.verdict)
     (h c l : List ℕ) (t : Tally) (sh : Same (cell_count (layout_of f)) h own) (sc : Same (cell_count (layout_of f)) c others) (sl : Same (cell_count (layout_of f)) l latest)
-    (answer : Result End Fault) (q : IsSomeAnd m.verdict (λ v. answer ≡ end_with (length (lengths_of f)) (λ a. (w.config.state.flags a).flag host) (λ a. (w.config.state.flags a).flag card) m.place.used v)) where
+    (answer : Result End Fault) (q : answer ≡ end_with (length (lengths_of f)) (λ a. (w.config.state.flags a).flag host) (λ a. (w.config.state.flags a).flag card) m.place.used (unwrap_or m.verdict Accepted)) where
   abbrev k : Config
   k = w.config
 
@@ -81,11 +83,11 @@ module _ (f choices : List ℕ) (m : Runner) (own others latest : List ℕ) (u :
   ran_at (out_of_choices r) s a = ran_as (out_of_choices r) s a
 
   pub ran : Ran f choices (lent h c l t) (lent own others latest u) answer
-  ran = go m.verdict w.ended q
+  ran = go m.verdict over w.ended q
     where
-      go : (o : Option Verdict) → Ended f k o → IsSomeAnd o (λ v. answer ≡ said v) → Ran f choices (lent h c l t) (lent own others latest u) answer
-      go None over a = absurd a
-      go (Some v) over a = ran_at over.ending over.last (a ∙ ap said over.says)
+      go : (o : Option Verdict) → IsSome o → Ended f k o → answer ≡ said (unwrap_or o Accepted) → Ran f choices (lent h c l t) (lent own others latest u) answer
+      go None some ended a = absurd (true≢false (sym some))
+      go (Some v) some ended a = ran_at ended.ending ended.last (a ∙ ap said ended.says)
 
 -- where it stands its flags fit masks of 32 bits: a plan has no more arrays
 pub flags_fit : {f choices own others latest : List ℕ} {m : Runner} {t : Tally} {k : Config} → Stands f choices m own others latest t k → (m.host_flags < 4294967296) × (m.card_flags < 4294967296)

@@ -1,8 +1,9 @@
 // The answers of a run: the numbers before it, and what its end answers.
-ghost use Rattle.std.specs.Prelude.{◌≡◌, Bool, ℕ, ◌≤◌, ◌<◌, IsSome, IsSomeAnd};
+ghost use Rattle.std.specs.Prelude.{◌≡◌, Bool, ℕ, ◌≤◌, ◌<◌};
+ghost use Rattle.std.specs.Option.{unwrap_or};
 ghost use Rattle.model.specs.declared.Tally.{Tally};
 ghost use Rattle.model.specs.Rows.{answer_of};
-ghost use Rattle.model.specs.Verdicts.{where_accepted};
+ghost use Rattle.model.specs.Verdicts.{Accepted, where_accepted};
 ghost use Rattle.contents.specs.Found.{found};
 ghost use Rattle.format.specs.Opening.{opened};
 ghost use Rattle.memories.specs.Flags.{mask};
@@ -42,12 +43,12 @@ pub fn ready(
     Ok(o)
 }
 
-// What the end of a run answers.
+// What the end of a run answers; of one that goes on, what it would answer if it were done here.
 pub fn end_of(m: Machine) -> Result<End, Fault>
-    requires { IsSome m.verdict × (m.place.used ≤ 65536) × (m.host_flags < 4294967296) × (m.card_flags < 4294967296) }
-    ensures { (n : ℕ) (host card : ℕ → Bool) → m.host_flags ≡ mask n host → m.card_flags ≡ mask n card → IsSomeAnd m.verdict (λ v. result ≡ end_with n host card m.place.used v) }
+    requires { (m.place.used ≤ 65536) × (m.host_flags < 4294967296) × (m.card_flags < 4294967296) }
+    ensures { (n : ℕ) (host card : ℕ → Bool) → m.host_flags ≡ mask n host → m.card_flags ≡ mask n card → result ≡ end_with n host card m.place.used (unwrap_or m.verdict Accepted) }
 {
-    m.verdict.unwrap()?;
+    m.verdict.unwrap_or(Ok(()))?;
     let p = m.place;
     let host_flags = m.host_flags as u32;
     let card_flags = m.card_flags as u32;
