@@ -6,4 +6,4 @@ pub mod arguments;
 pub mod page;
 pub mod program;
 pub mod streams;
-mod table;
+pub mod table;

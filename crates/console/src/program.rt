@@ -8,8 +8,8 @@ const ROOM: usize = 128;
 
 // Its name, and where it says what failed.
 #[derive(Clone, Copy)]
-pub struct Program {
-    pub name: &'static str,
+pub struct Program<'a> {
+    pub name: &'a [u8],
     pub err: Stderr,
 }
 
@@ -21,7 +21,7 @@ fn words_of(s: &[u8]) -> &[u8] {
     }
 }
 
-impl Program {
+impl<'a> Program<'a> {
     // Writes to standard error. Where that fails nobody is left to be told.
     pub fn put(&self, bytes: &[u8]) {
         let _ = write(&self.err, bytes);
@@ -29,7 +29,7 @@ impl Program {
 
     // Begins what it says with its name.
     pub fn begin(&self) {
-        self.put(self.name.as_bytes());
+        self.put(self.name);
         self.put(b": ");
     }
 

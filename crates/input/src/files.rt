@@ -1,14 +1,14 @@
 // Reading the files that a program's arguments name.
-ghost use Rattle.std.specs.Prelude.{IfSome};
+ghost use Rattle.std.specs.Prelude.{MatchResult};
 ghost use Rattle.input.specs.Counts.{IsPrefixLen};
 
-use crate::read_input;
+use crate::{Failed, read_input};
 use console::program::Program;
 use std::env::{Env, FillError};
-use std::fs;
-use std::io::{Error, Read, Result};
+use std::io::{Error, Read};
 use std::rt::Files;
 use std::str::from_utf8;
+use std::{fs, io};
 
 // The system's numbers for an argument that is missing, for one that is too long for a path, and for a path that is no text.
 const INVALID: i32 = 22;
@@ -26,7 +26,7 @@ fn missing(why: FillError) -> Error {
 }
 
 // Opens the file at a path. One that is no text reaches no file: std's paths are text.
-fn open_path<R: Files>(rt: &R, path: &[u8]) -> Result<R::File> {
+fn open_path<R: Files>(rt: &R, path: &[u8]) -> io::Result<R::File> {
     match from_utf8(path) {
         Ok(text) => fs::open(rt, text),
         Err(_) => Err(Error::from_raw_os_error(NO_TEXT)),
@@ -35,17 +35,17 @@ fn open_path<R: Files>(rt: &R, path: &[u8]) -> Result<R::File> {
 
 // A file that an argument of a program names: which one, and what the file is for.
 #[derive(Clone, Copy)]
-pub struct NamedFile {
-    pub program: Program,
+pub struct NamedFile<'a> {
+    pub program: Program<'a>,
     pub argument: usize,
-    pub what: &'static str,
+    pub what: &'a [u8],
 }
 
-impl NamedFile {
+impl<'a> NamedFile<'a> {
     // Says on standard error that it cannot be read and why: the program, what the file is for, its path as far as it is known, and the system's words.
     fn unread(&self, path: &[u8], why: Error) {
         self.program.begin();
-        self.program.put(self.what.as_bytes());
+        self.program.put(self.what);
         if !path.is_empty() {
             self.program.put(b" ");
         }
@@ -79,24 +79,34 @@ impl NamedFile {
         }
     }
 
-    // Reads on in it, once it is open, as far as the room goes; None where it cannot, and has said why.
-    pub fn read_on<R: Env, F: Read>(&self, rt: &R, file: &mut F, room: &mut [u8]) -> Option<usize>
-        ensures { IfSome result (λ n. IsPrefixLen n room.new) }
+    // Reads on in it, once it is open, as far as the room goes; where it cannot, it has said why.
+    pub fn read_on<R: Env, F: Read>(
+        &self,
+        rt: &R,
+        file: &mut F,
+        room: &mut [u8],
+    ) -> Result<usize, Failed>
+        ensures { MatchResult result (λ n. IsPrefixLen n room.new) (λ e. IsPrefixLen e.size room.new) }
     {
         match read_input(file, room) {
-            Ok(size) => Some(size),
-            Err(why) => {
-                self.stopped(rt, why);
-                None
+            Ok(size) => Ok(size),
+            Err(failed) => {
+                if let Some(why) = failed.why {
+                    self.stopped(rt, why);
+                }
+                Err(failed)
             }
         }
     }
 
-    // Opens it and reads it as far as the room goes; None where it cannot, and has said why.
-    pub fn read<R: Env + Files>(&self, rt: &R, room: &mut [u8]) -> Option<usize>
-        ensures { IfSome result (λ n. IsPrefixLen n room.new) }
+    // Opens it and reads it as far as the room goes; where it cannot, it has said why.
+    pub fn read<R: Env + Files>(&self, rt: &R, room: &mut [u8]) -> Result<usize, Failed>
+        ensures { MatchResult result (λ n. IsPrefixLen n room.new) (λ e. IsPrefixLen e.size room.new) }
     {
-        let mut file = self.open(rt)?;
+        let Some(file) = self.open(rt) else {
+            return Err(Failed { size: 0, why: None });
+        };
+        let mut file = file;
         self.read_on(rt, &mut file, room)
     }
 }

@@ -7,7 +7,7 @@ use std::fmt;
 use std::fmt::{Display, Formatter, Write};
 
 // The beginning of a line that stands so many levels in: two spaces a level.
-fn indent(page: &mut impl Write, level: usize) -> fmt::Result {
+pub fn indent(page: &mut impl Write, level: usize) -> fmt::Result {
     for _ in 0..level {
         page.write_str("  ")?;
     }

@@ -40,11 +40,11 @@ fn line_of(plan: &[u8]) -> Line
 
 fn main(rt: HostRuntime) {
     let program = Program {
-        name: "plancheck",
+        name: b"plancheck",
         err: rt.stderr(),
     };
     let mut room = [0u8; ROOM];
-    let Some(size) = read_plan(rt.stdin(), program, &mut room) else {
+    let Ok(size) = read_plan(rt.stdin(), program, &mut room) else {
         return;
     };
     let line = line_of(&room[..size]);

@@ -40,11 +40,11 @@ fn expansion_of(plan: &[u8], out: &mut [u8; LARGEST]) -> Expansion
 
 fn main(rt: HostRuntime) {
     let program = Program {
-        name: "planexpand",
+        name: b"planexpand",
         err: rt.stderr(),
     };
     let mut room = [0u8; ROOM];
-    let Some(n) = read_plan(rt.stdin(), program, &mut room) else {
+    let Ok(n) = read_plan(rt.stdin(), program, &mut room) else {
         return;
     };
     let mut out = [0u8; LARGEST];

@@ -52,9 +52,9 @@ fn answer(page: &mut impl Write, plan: &[u8], body: Option<u64>) -> fmt::Result 
 }
 
 // Lists what standard input gives.
-fn list(stdin: Stdin, out: Stdout, program: Program, body: Option<u64>) {
+fn list(stdin: Stdin, out: Stdout, program: Program<'_>, body: Option<u64>) {
     let mut room = [0u8; ROOM];
-    let Some(size) = read_plan(stdin, program, &mut room) else {
+    let Ok(size) = read_plan(stdin, program, &mut room) else {
         return;
     };
     let mut page = Page::new(out);
@@ -65,7 +65,7 @@ fn list(stdin: Stdin, out: Stdout, program: Program, body: Option<u64>) {
 
 fn main(rt: HostRuntime) {
     let program = Program {
-        name: "planlist",
+        name: b"planlist",
         err: rt.stderr(),
     };
     match (argument_count(&rt), number_argument(&rt, 1)) {

@@ -64,7 +64,7 @@ fn log_lines<R: Env, F: Read>(
     page: &mut Page<Stdout>,
     plan: &[u8],
     o: Opened,
-    named: NamedFile,
+    named: NamedFile<'_>,
     log: &mut F,
 ) -> Option<()>
     requires { Opens plan.now o }
@@ -72,7 +72,7 @@ fn log_lines<R: Env, F: Read>(
     let mut part = [0u8; PART];
     let mut stage = Some(Stage::first(plan, o));
     for _k in 0..PARTS {
-        let n = named.read_on(rt, log, &mut part)?;
+        let n = named.read_on(rt, log, &mut part).ok()?;
         if let Some(before) = stage {
             stage = after_part(page, before, plan, o, &part[..n]);
         }
@@ -85,7 +85,7 @@ fn log_lines<R: Env, F: Read>(
 }
 
 // Prints the answer to a plan and that log file.
-fn answer<R: Env, F: Read>(rt: &R, out: Stdout, plan: &[u8], named: NamedFile, log: &mut F) {
+fn answer<R: Env, F: Read>(rt: &R, out: Stdout, plan: &[u8], named: NamedFile<'_>, log: &mut F) {
     let mut page = Page::new(out);
     let opened = format::open(plan);
     match plan_to_follow(opened, false) {
@@ -102,19 +102,19 @@ fn answer<R: Env, F: Read>(rt: &R, out: Stdout, plan: &[u8], named: NamedFile, l
 }
 
 // The same of the plan file that the first argument names and the log file that the second names.
-fn log_files<R: Env + Files>(rt: &R, out: Stdout, program: Program) {
+fn log_files<R: Env + Files>(rt: &R, out: Stdout, program: Program<'_>) {
     let plan_file = NamedFile {
         program,
         argument: 1,
-        what: "plan file",
+        what: b"plan file",
     };
     let log_file = NamedFile {
         program,
         argument: 2,
-        what: "log file",
+        what: b"log file",
     };
     let mut plan = [0u8; ROOM];
-    let Some(n) = plan_file.read(rt, &mut plan) else {
+    let Ok(n) = plan_file.read(rt, &mut plan) else {
         return;
     };
     if let Some(log) = log_file.open(rt) {
@@ -125,7 +125,7 @@ fn log_files<R: Env + Files>(rt: &R, out: Stdout, program: Program) {
 
 fn main(rt: HostRuntime) {
     let program = Program {
-        name: "planlog",
+        name: b"planlog",
         err: rt.stderr(),
     };
     if argument_count(&rt) == 3 {

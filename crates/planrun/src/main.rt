@@ -40,17 +40,17 @@ fn answer(page: &mut impl Write, plan: &[u8], choices: &[u8], asked: Option<Cell
 fn run_plan<R: Env + Files>(
     rt: &R,
     out: Stdout,
-    program: Program,
+    program: Program<'_>,
     plan: &[u8],
     asked: Option<Cells>,
 ) {
     let named = NamedFile {
         program,
         argument: 2,
-        what: "choices file",
+        what: b"choices file",
     };
     let mut choices = [0u8; CHOICES_ROOM];
-    let Some(n) = named.read(rt, &mut choices) else {
+    let Ok(n) = named.read(rt, &mut choices) else {
         return;
     };
     let mut page = Page::new(out);
@@ -60,21 +60,21 @@ fn run_plan<R: Env + Files>(
 }
 
 // The same of the plan file that the first argument names.
-fn run_files<R: Env + Files>(rt: &R, out: Stdout, program: Program, asked: Option<Cells>) {
+fn run_files<R: Env + Files>(rt: &R, out: Stdout, program: Program<'_>, asked: Option<Cells>) {
     let named = NamedFile {
         program,
         argument: 1,
-        what: "plan file",
+        what: b"plan file",
     };
     let mut plan = [0u8; ROOM];
-    if let Some(n) = named.read(rt, &mut plan) {
+    if let Ok(n) = named.read(rt, &mut plan) {
         run_plan(rt, out, program, &plan[..n], asked);
     }
 }
 
 fn main(rt: HostRuntime) {
     let program = Program {
-        name: "planrun",
+        name: b"planrun",
         err: rt.stderr(),
     };
     let first = number_argument(&rt, 3);

@@ -25,7 +25,7 @@ fn line(page: &mut impl Write, figures: &[u64]) -> fmt::Result {
 }
 
 // Prints the figures as a line.
-fn print_line(out: Stdout, program: Program, figures: &[u64]) {
+fn print_line(out: Stdout, program: Program<'_>, figures: &[u64]) {
     let mut page = Page::new(out);
     // The page keeps a failure until it is finished.
     let _ = line(&mut page, figures);
@@ -33,14 +33,14 @@ fn print_line(out: Stdout, program: Program, figures: &[u64]) {
 }
 
 // Says on standard error why there are none.
-fn refuse(program: Program, fault: Fault) {
+fn refuse(program: Program<'_>, fault: Fault) {
     let mut page = Page::new(program.err);
     let _ = writeln!(page, "plansheet: {}", Refusal(fault));
     let _ = page.print();
 }
 
 // Prints the figures for sequences of length n, or says why there are none.
-fn answer(out: Stdout, program: Program, n: u64) {
+fn answer(out: Stdout, program: Program<'_>, n: u64) {
     let mut figures = [0u64; FIGURES];
     match sheet(n, &mut figures) {
         Ok(()) => print_line(out, program, &figures[..n as usize + 1]),
@@ -50,7 +50,7 @@ fn answer(out: Stdout, program: Program, n: u64) {
 
 fn main(rt: HostRuntime) {
     let program = Program {
-        name: "plansheet",
+        name: b"plansheet",
         err: rt.stderr(),
     };
     match (argument_count(&rt), number_argument(&rt, 1)) {
