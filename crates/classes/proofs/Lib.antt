@@ -1,2 +1,3 @@
--- the marks
+-- the marks, and the answer with a cell more
 pub mod Marking
+pub mod More

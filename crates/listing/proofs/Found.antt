@@ -37,9 +37,9 @@ pub record Stands (f starts : List ℕ) (b : ℕ) : Type 0 where
   pub lists : Listable (body_view f b) (get_or starts b 0) 0 (get_or starts (b + 1) 0 - get_or starts b 0)
 
 -- the plan has a body that the body view accepts
-pub viewed_body : (f : List ℕ) (b : ℕ) → Accepted ≡ body_view_answer f b → b < body_count f
-unfolding body_view_answer
-viewed_body f b e = leb-false _ _ (skipped _ _ _ _ (passed (open_rows f) _ e).1).0
+pub viewed_body : (f : List ℕ) (b : ℕ) → Accepted ≡ body_view_answer f b → (Accepted ≡ opening f) × (b < body_count f)
+unfolding body_view_answer opening
+viewed_body f b e = let p = passed (open_rows f) _ e in (p.0, leb-false _ _ (skipped _ _ _ _ p.1).0)
 
 -- the same records of a plan, from one number to another
 moved : {f : List ℕ} {r end : ℕ} (s t : ℕ) → r ≡ s → end ≡ t → Walkable f r end → Walkable f s t

@@ -1,11 +1,11 @@
 -- The figures as the code puts them, record by record.
-use Prim.Native.Nat.{ℕ, suc, ◌+◌, ◌-◌, ◌*◌, ◌/◌, ◌^◌, ◌≤◌, ◌<◌}
+use Prim.Native.Nat.{ℕ, zero, suc, ◌+◌, ◌-◌, ◌*◌, ◌/◌, ◌^◌, ◌≤◌, ◌<◌}
 use mathlib.Core.Path.{◌≡◌, refl, ap, ap₂, sym, ◌∙◌}
 use mathlib.Core.List.{List, [], ◌∷◌, ◌++◌}
 use native.Mathlib.Omega.{arith}
 use native.Mathlib.Nat.{sub-zero, pow-succ', pow-le-pow_right, one-le-pow, mul-div_cancel_left, mul-le-mul_left}
 use native.Mathlib.Numerals.{add-one}
-use lib.ListN.{length, take, drop, set, length-set}
+use lib.ListN.{length, take, drop, set, length-append, length-drop, length-set}
 use lib.Seq.{take-suc-set, drop-set-lt, drop-drop, append_snoc, set_split}
 use lib.Dec.{ltb}
 use borrow.Author.Tests.{lt-ltb, le-ltb, ltb-false}
@@ -18,6 +18,9 @@ use Rattle.sheet.proofs.Counting.{counted, figures_counted}
 -- no count passes 6^24, which is below 2^63
 pub power_fits : (i : ℕ) → i ≤ 24 → 6 ^ i ≤ 6 ^ 24
 power_fits i h = pow-le-pow_right {n = 6} (omega arith) h
+
+pub power_more : (i : ℕ) → 6 * 6 ^ i ≡ 6 ^ (i + 1)
+power_more i = rw add-one (sym (pow-succ' 6 i))
 
 -- the figures before record r are put, the others are as they were, and the counts before it give those that follow
 pub record Filled (n : ℕ) (before : List ℕ) (r one both rest : ℕ) (figures : List ℕ) : Type 0 where
@@ -67,6 +70,9 @@ module _ (n : ℕ) (before : List ℕ) (r one both rest : ℕ) (figures : List �
     pub passed_fits : one + both ≤ 6 ^ 23
     passed_fits = let p : 1 ≤ rest / 6 = rw divided (one-le-pow behind 6 (omega arith)) in omega (arith, whole, mul-le-mul_left (one + both) p)
 
+    pub stops_fit : 2 * one * (rest / 6) ≤ 6 ^ 24
+    stops_fit = omega (arith, whole)
+
     abbrev put : List ℕ
     put = set figures r (2 * one * (rest / 6))
 
@@ -92,6 +98,9 @@ module _ (n : ℕ) (before : List ℕ) (r one both rest : ℕ) (figures : List �
   module _ (past : n ≤ r) where
     ends : r ≡ n
     ends = omega (arith, f.inside)
+
+    pub last_fits : one + both ≤ 6 ^ 24
+    last_fits = let p : 1 ≤ rest = rw f.follow (one-le-pow (n - r) 6 (omega arith)) in omega (arith, f.fits, mul-le-mul_left (one + both) p)
 
     front_last : take n figures ++ ((one + both) ∷ []) ≡ figures_of n
     front_last = ap (λ k. take k figures ++ ((one + both) ∷ [])) (sym ends) ∙ (ap (λ k. take r figures ++ counted k one both) none_left ∙ (f.front ∙ sym (figures_counted n)))
@@ -125,3 +134,14 @@ up_to n h = rw (le-ltb 24 n h)
 pub answered : (n : ℕ) → Accepted ≡ sheet_answer n → n ≤ 24
 unfolding sheet_answer
 answered n e = ltb-false 24 n (skipped (ltb 24 n) 38 0 [] e).0
+
+length_counted : (n one both : ℕ) → length (counted n one both) ≡ suc n
+length_counted zero one both = refl
+length_counted (suc n) one both = ap suc (length_counted n (3 * one + 2 * both) (one + 4 * both))
+
+-- no figure more and none less
+pub kept : (n : ℕ) (before : List ℕ) → n ≤ 24 → n < length before → length (sheet_figures n before) ≡ length before
+unfolding sheet_figures sheet_answer answer_of
+kept n before h l =
+    rw (le-ltb 24 n h)
+    (simp (length-append, length-drop, figures_counted n, length_counted n 1 0) (omega arith))

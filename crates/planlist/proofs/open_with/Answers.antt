@@ -13,4 +13,4 @@ both f b (Ok o) l e = (e, l)
 both f b (Err e) l h = tt
 
 pub returns : goal.returns
-returns c = both _ _ _ (viewed_body _ _ c.in_ok-body_view_answer.ensures) c.open.ensures
+returns c = both _ _ _ (viewed_body _ _ c.in_ok-body_view_answer.ensures).1 c.open.ensures

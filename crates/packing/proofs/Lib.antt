@@ -1,0 +1,2 @@
+-- what is packed, answer by answer
+pub mod Packs
