@@ -63,7 +63,7 @@ impl Statuses {
     }
 
     // A set without status w, which is in it.
-    fn dropped(self, w: usize) -> Statuses
+    pub fn dropped(self, w: usize) -> Statuses
         requires { (w < statuses) × (bit self w ≡ true) }
         ensures { (result < self) × ((i : ℕ) → i < statuses → bit result i ≡ (not (eqb i w) && bit self i)) }
     {
