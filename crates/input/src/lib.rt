@@ -1,13 +1,15 @@
 // Reading a plan file, or another.
 #![tactic(auto)]
 
-ghost use Rattle.std.specs.Prelude.{MatchResult};
+ghost use Rattle.std.specs.Prelude.{IsSome, MatchResult};
 ghost use Rattle.input.specs.Counts.{IsPrefixLen};
 
 use console::program::Program;
 use std::io::{Error, Read, Stdin};
 
 pub mod files;
+#[cfg(test)]
+mod tests;
 
 // One byte more than the largest plan file, which has 32 arrays, 32 bodies and 1,024 records. Of a longer input these bytes decide the answer
 // (specs/Longer).
@@ -22,7 +24,7 @@ pub struct Failed {
 
 // Reads until the room is full, the input ends or a read fails, and answers how many bytes stand at the front of the room.
 pub fn read_input<R: Read>(from: &mut R, room: &mut [u8]) -> Result<usize, Failed>
-    ensures { MatchResult result (λ n. IsPrefixLen n room.new) (λ e. IsPrefixLen e.size room.new) }
+    ensures { MatchResult result (λ n. IsPrefixLen n room.new) (λ e. IsPrefixLen e.size room.new × IsSome e.why) }
 {
     let mut size = 0;
     // Not a range: a step is what a read gave.
